@@ -1,14 +1,8 @@
 -- which acts are believed
 use Rattle.std.proofs.Common.{◌≡◌, ◌≢◌, ◌↔◌, Bool, true, false, Option, Some, None, IsSome, Result, IfOk, refl, sym, ap, subst, ◌∙◌}
-use Rattle.std.specs.Prelude.{if◌then◌else◌, ◌&&◌, ◌||◌, IsTrue}
-use Rattle.std.proofs.lemmas.Result.{IfOk-weaker}
-use Rattle.mr_maildir.specs.View.{ViewParts}
-use Rattle.mr_maildir.specs.Act.{standing, is_left, act_on_unseen, act_of_standing, act_of}
-use Rattle.mr_maildir.specs.declared.act.Act.{Act}
-use Rattle.mr_maildir.specs.declared.act.Act.TheVariants.{Agree, Create, Edit, Delete, Follow, Remove}
+use Rattle.mr_compare.proofs.Names.{Act, Agree, Create, Delete, Edit, Follow, IfOk-weaker, IsDeletion, IsTrue, Remove, Standing, ViewParts, act_for, act_of}
+use Rattle.mr_compare.proofs.Names.{act_of_standing, act_on_unseen, believed, believed_edit, if◌then◌else◌, is_left, keeps_folders, standing, ◌&&◌, ◌||◌}
 use Rattle.mr_maildir.proofs.ActLemmas.{deletes_exactly, creates_exactly, undeleted}
-use Rattle.mr_compare.specs.declared.compare.Standing.{Standing}
-use Rattle.mr_compare.specs.Compare.{keeps_folders, believed, believed_edit, act_for, IsDeletion}
 
 either : (b : Bool) (P : Act → Type 0) (x y : Act) → P x → P y → P (if b then x else y)
 either true P x y one other = one

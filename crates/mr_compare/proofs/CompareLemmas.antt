@@ -1,17 +1,10 @@
 -- what is done for mails, mail by mail
 use Rattle.std.proofs.Common.{◌≡◌, ℕ, ◌+◌, ◌<◌, Bool, true, false, cond, List, [], ◌∷◌, ◌++◌, map, take, length, get_or, Option, Some, None, All, refl, ap, sym, ◌∙◌, arith}
-use Rattle.std.proofs.lemmas.List.{append-nil, append_assoc, map-append}
-use Rattle.std.proofs.lemmas.List.Concat.{flat_map-append, flat_map-cons}
-use Rattle.std.proofs.lemmas.List.Sums.{sum_by-append, sum_by-cons}
-use Rattle.std.proofs.lemmas.List.Elements.{recursion_from_All}
-use Rattle.std.specs.List.{AllByRecursion}
-use Rattle.mr_maildir.specs.View.{ViewParts}
-use Rattle.mr_maildir.specs.declared.act.Act.{Act}
-use Rattle.mr_maildir.specs.declared.act.Act.TheVariants.{Agree, Create, Edit, Delete, Follow, Remove}
+use Rattle.mr_compare.proofs.Names.{Act, Agree, AllByRecursion, Create, Delete, Edit, Follow, Remove, Standing, ViewParts, act_for, append-nil, append_assoc}
+use Rattle.mr_compare.proofs.Names.{believed_acts, deletions, due, due_acts, flat_map-append, flat_map-cons, if_any, map-append, merge_or, merged_act}
+use Rattle.mr_compare.proofs.Names.{recursion_from_All, sum_by-append, sum_by-cons, told_for}
 use Rattle.mr_compare.proofs.ListLemmas.{take_one}
-use Rattle.mr_compare.specs.declared.compare.Standing.{Standing}
 use Rattle.mr_compare.specs.declared.compare.MailAct.{MailAct}
-use Rattle.mr_compare.specs.Compare.{act_for, told_for, merge_or, merged_act, if_any, due, due_acts, believed_acts, deletions}
 use Rattle.mr_compare.specs.Tally.{deletes, count_of}
 
 -- with one mail more

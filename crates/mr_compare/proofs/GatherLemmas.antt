@@ -1,14 +1,7 @@
 -- values by their keys, pair by pair
 use Rattle.std.proofs.Common.{◌≡◌, Bool, true, false, cond, List, [], ◌∷◌, ◌++◌, map, filter, Option, Some, None, refl, ap, sym, ◌∙◌}
 use Rattle.std.specs.Cmp.{IsTotalOrder, tied_itself}
-use Rattle.std.specs.declared.cmp.Ordering.{Ordering}
-use Rattle.std.specs.declared.cmp.Ordering.TheVariants.{Less, Equal, Greater}
-use Rattle.std.specs.Ordering.{is_eq}
-use Rattle.std.specs.Map.{lookup}
-use Rattle.std.specs.Global.{Vec}
-use Rattle.std.proofs.lemmas.List.{map-append, append-nil}
-use Rattle.std.proofs.lemmas.List.Elements.{filter-append}
-use Rattle.mr_compare.specs.Gather.{items_of, values_at, values_of}
+use Rattle.mr_compare.proofs.Names.{Equal, Greater, Less, Ordering, Vec, append-nil, filter-append, is_eq, items_of, lookup, map-append, values_at, values_of}
 
 -- keys that compare alike find the same
 alike : {K X : Type 0} {R : K → K → Ordering} → IsTotalOrder R → (x y : K) → R x y ≡ Equal → (es : List (K × X)) → lookup (λ k. is_eq (R x k)) es ≡ lookup (λ k. is_eq (R y k)) es

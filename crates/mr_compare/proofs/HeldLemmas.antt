@@ -1,22 +1,13 @@
 -- revisions that are read, one by one, and heads in any order
 use Rattle.std.proofs.Common.{◌≡◌, ℕ, ◌+◌, ◌<◌, ◌≤◌, Bool, true, false, ◌&&◌, List, [], ◌∷◌, ◌++◌, map, take, length, get_or, Option, Some, None, refl, ap, sym, subst, ◌∙◌, arith}
-use Rattle.std.specs.Prelude.{not}
-use Rattle.std.specs.List.{flat_map, list_all, AllByRecursion}
+use Rattle.mr_compare.proofs.Names.{All-from_recursion, All-nil, All-push, AllByRecursion, AreRead, Name, Rev, Tells, ViewParts, and_from, and_parts}
+use Rattle.mr_compare.proofs.Names.{append-nil, differ, flat_map, flat_map-append, flat_map-cons, heads_told, length-append, length-map, list_all, map-append}
+use Rattle.mr_compare.proofs.Names.{merged_view, not, recursion_from_All, view_at, view_eq, view_eq-Decides}
 use Rattle.std.specs.List.Sorted.{IsPermutation}
-use Rattle.std.proofs.lemmas.Bool.{and_parts, and_from}
-use Rattle.std.proofs.lemmas.List.{map-append, append-nil, length-append, length-map}
-use Rattle.std.proofs.lemmas.List.Concat.{flat_map-append, flat_map-cons}
-use Rattle.std.proofs.lemmas.List.Elements.{All-push, All-nil, All-from_recursion, recursion_from_All}
 use Rattle.std.proofs.lemmas.List.Sorted.{IsPermutation-sym, IsPermutation-map, All-permutation, length_permutation}
-use Rattle.mr_version.specs.Name.{Name}
-use Rattle.mr_madewith.specs.Revision.{Rev}
-use Rattle.mr_maildir.specs.View.{ViewParts, view_eq}
-use Rattle.mr_maildir.specs.Merging.{merged_view, differ}
-use Rattle.mr_maildir.proofs.ViewLemmas.{view_eq-Decides}
 use Rattle.mr_maildir.proofs.MergingLemmas.{merged-moved}
 use Rattle.mr_compare.proofs.ListLemmas.{take_one}
 use Rattle.mr_compare.specs.declared.held.Head.{Head}
-use Rattle.mr_compare.specs.Held.{Tells, heads_told, AreRead, view_at}
 use Rattle.mr_compare.specs.inner.Held.{ReadsOne}
 
 abbrev Row : Type 0

@@ -1,25 +1,13 @@
 -- items and mails, one by one
 use Rattle.std.proofs.Common.{◌≡◌, ℕ, ◌+◌, ◌<◌, Bool, true, false, cond, List, [], ◌∷◌, ◌++◌, map, filter, take, length, get_or, Option, Some, None, append_assoc, refl, ap, sym, ◌∙◌}
-use Rattle.std.specs.Prelude.{◌||◌, not}
-use Rattle.std.specs.List.{flat_map, list_any}
-use Rattle.std.specs.Ordering.{is_eq, ord_min}
+use Rattle.mr_compare.proofs.Names.{Name, ViewParts, append-nil, at_digest, filter-append, flat_map, flat_map-append, flat_map-cons, fold-append, is_eq}
+use Rattle.mr_compare.proofs.Names.{left_mail, list_any, lowest, map-append, name_cmp, not, ord_min, text_cmp, together, values_of, ◌||◌}
 use Rattle.std.proofs.Math.Bool.{or-false}
-use Rattle.std.proofs.lemmas.List.{append-nil, map-append}
-use Rattle.std.proofs.lemmas.List.Concat.{flat_map-append, flat_map-cons}
-use Rattle.std.proofs.lemmas.List.Elements.{filter-append}
 use Rattle.std.proofs.lemmas.List.Folds.{list_any-append}
-use Rattle.std.proofs.lemmas.List.Sums.{fold-append}
 use Rattle.std.proofs.lemmas.Map.Lookups.{exact_bytes}
-use Rattle.mr_version.specs.Name.{Name, name_cmp}
-use Rattle.mr_mail.specs.Label.{text_cmp}
-use Rattle.mr_maildir.specs.View.{ViewParts}
 use Rattle.mr_compare.specs.declared.sides.LeftMail.{LeftMail}
-use Rattle.mr_compare.specs.Gather.{values_of}
-use Rattle.mr_compare.specs.Joining.{lowest, together}
 use Rattle.mr_compare.specs.inner.Joining.{lower_of}
-use Rattle.mr_compare.specs.MailsLeft.{left_mail}
 use Rattle.mr_compare.specs.inner.MailsLeft.{next_mail}
-use Rattle.mr_compare.specs.Sides.{at_digest}
 use Rattle.mr_compare.proofs.GatherLemmas.{values_of-more}
 use Rattle.mr_compare.proofs.LeftLemmas.{equal_of}
 use Rattle.mr_compare.proofs.ListLemmas.{take_one}

@@ -1,22 +1,15 @@
 -- what entries leave of an item, entry by entry
 use Rattle.std.proofs.Common.{◌≡◌, ℕ, ◌+◌, ◌<◌, Bool, true, false, cond, ◌&&◌, List, [], ◌∷◌, ◌++◌, take, length, get_or, filter, Option, Some, None, refl, ap, sym, ◌∙◌}
-use Rattle.std.specs.Map.{lookup}
-use Rattle.std.specs.Ordering.{is_eq, ordering_then, eq_by_cmp}
-use Rattle.std.specs.declared.cmp.Ordering.{Ordering}
-use Rattle.std.specs.declared.cmp.Ordering.TheVariants.{Less, Equal, Greater}
-use Rattle.std.proofs.lemmas.List.{map-append, append-nil}
-use Rattle.std.proofs.lemmas.List.Elements.{filter-append}
-use Rattle.std.proofs.lemmas.List.Sums.{fold-append}
-use Rattle.mr_version.specs.Name.{Name, name_cmp, name_eq}
+use Rattle.mr_compare.proofs.Names.{Equal, Greater, Less, MailCard, Name, Ordering, append-nil, card_left, eq_by_cmp, filter-append, fold-append, is_eq}
+use Rattle.mr_compare.proofs.Names.{item_cards, last_added, last_told, lookup, map-append, name_cmp, name_eq, newer, of_item, ordering_then, pair_cmp}
+use Rattle.mr_compare.proofs.Names.{told_last}
 use Rattle.mr_version.specs.Order.{exact_names}
-use Rattle.mr_mail.specs.Mail.{MailCard}
 use Rattle.mr_model.specs.Headline as model
 use Rattle.mr_feed.specs.declared.entry.Entry.{Entry}
 use Rattle.mr_feed.specs.declared.entry.Entry.TheVariants.{Added, Dropped}
 use Rattle.mr_feed.specs.Entry.{told, told_entry, entry_item, entry_version}
 use Rattle.mr_feed.specs.Fold.{fold_from-append}
 use Rattle.mr_compare.proofs.ListLemmas.{take_one}
-use Rattle.mr_compare.specs.Left.{of_item, item_cards, newer, last_added, last_told, told_last, card_left, pair_cmp}
 use Rattle.mr_feed.specs.inner.Entry.{card_added}
 use Rattle.mr_compare.specs.inner.Left.{newest_of, with_entry}
 

@@ -1,18 +1,11 @@
 -- What is read of a note respells the bytes that it took, and what is spelled is read again.
 use Rattle.std.proofs.Common.{◌≡◌, ℕ, ◌<◌, ◌^◌, Bool, true, false, cond, eqb, List, [], ◌∷◌, ◌++◌, length, Option, Some, None, Result, Ok, Err, refl, sym, ap, subst, ◌∙◌}
-use Rattle.std.specs.Prelude.{IfSome, IfOk, option_map}
-use Rattle.std.specs.List.{flat_map, AllByRecursion}
+use Rattle.mr_compare.proofs.Names.{All-from_recursion, AllByRecursion, IfOk, IfSome, IsItem, Name, Reads, RunFits, Vec, append-nil, eqb-true, flat_map}
+use Rattle.mr_compare.proofs.Names.{name_bytes, option_map, reads_as, reads_bytes, reads_counted, reads_like, reads_run, reads_then, reads_u32, reads_u64}
+use Rattle.mr_compare.proofs.Names.{recursion_from_All, u32}
 use Rattle.std.specs.Int.{w32, w64}
-use Rattle.std.specs.Global.{Vec}
-use Rattle.std.proofs.lemmas.Bool.{eqb-true}
-use Rattle.std.proofs.lemmas.List.{append-nil}
-use Rattle.std.proofs.lemmas.List.Elements.{All-from_recursion, recursion_from_All}
-use Rattle.mr_version.specs.Name.{Name}
-use Rattle.mr_wire.specs.Grammar.{IsItem}
 use Rattle.mr_wire.specs.Prefixed.{whole_at}
 use Rattle.mr_wire.specs.Reading.{Reader, ◌>>=◌, number_at, as_at, then_at, counted_at, Stands}
-use Rattle.mr_wire.specs.Spelling.{u32, name_bytes}
-use Rattle.mr_wire.proofs.Laws.{Reads, RunFits, reads_like, reads_as, reads_then, reads_counted, reads_run, reads_u32, reads_u64, reads_bytes}
 use Rattle.mr_wire.proofs.PartLaws.{reads_author, reads_name}
 use Rattle.mr_wire.proofs.FrameLaws.{as_again, as_takes}
 use Rattle.mr_wire.proofs.PrefixLaws.{whole_found}

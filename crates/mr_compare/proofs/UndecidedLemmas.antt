@@ -1,18 +1,8 @@
 -- a change that was seen is told, or waits, unless its mail is undecided
 use Rattle.std.proofs.Common.{◌≡◌, ◌⊎◌, inl, inr, ℕ, suc, ◌+◌, ◌<◌, ◌≤◌, Bool, true, false, cond, List, [], ◌∷◌, ◌++◌, map, drop, length, get_or, add-one, Option, Some, None, All, refl, sym, ap, find, ◌∙◌}
-use Rattle.std.proofs.Math.Seq.{drop-cons}
-use Rattle.std.proofs.lemmas.List.{drop_all}
-use Rattle.std.proofs.lemmas.List.Elements.{All-from_recursion}
-use Rattle.std.specs.List.{AllByRecursion}
-use Rattle.std.specs.Prelude.{if◌then◌else◌, not, ◌&&◌, ◌||◌, option_map}
-use Rattle.mr_maildir.specs.View.{ViewParts}
-use Rattle.mr_maildir.specs.Act.{act_of}
-use Rattle.mr_maildir.specs.declared.act.Act.TheVariants.{Agree, Edit, Delete}
-use Rattle.mr_maildir.proofs.ViewLemmas.{view_eq-Decides}
-use Rattle.mr_compare.specs.declared.compare.Standing.{Standing}
-use Rattle.mr_compare.specs.Compare.{keeps_folders, believed, merged_act, merge_or, told_for}
-use Rattle.mr_compare.specs.Sides.{are_same}
-use Rattle.mr_compare.specs.Undecided.{is_doubted, has_news, is_undecided, first_undecided, Waits, IsHeeded}
+use Rattle.mr_compare.proofs.Names.{Agree, All-from_recursion, AllByRecursion, Delete, Edit, IsHeeded, Standing, ViewParts, Waits, act_of, are_same, believed}
+use Rattle.mr_compare.proofs.Names.{drop-cons, drop_all, first_undecided, has_news, if◌then◌else◌, is_doubted, is_undecided, keeps_folders, merge_or}
+use Rattle.mr_compare.proofs.Names.{merged_act, not, option_map, told_for, view_eq-Decides, ◌&&◌, ◌||◌}
 use Rattle.mr_compare.proofs.CompareLemmas.{unmerged_or}
 
 same_is : (a b : Option ViewParts) → are_same a b ≡ true → b ≡ a

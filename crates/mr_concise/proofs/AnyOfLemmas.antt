@@ -1,17 +1,7 @@
 use Rattle.std.proofs.Common.{◌≡◌, ◌<◌, ◌≤◌, ◌+◌, ◌||◌, ℕ, Bool, true, false, refl, ap, sym, ◌∙◌, arith, List, [], ◌∷◌, ◌++◌, length, get_or, take, Option}
 use Rattle.std.specs.Option.{MatchOption}
-use Rattle.std.specs.Prelude.{IfSome}
-use Rattle.std.proofs.lemmas.List.{take_more}
-use Rattle.std.proofs.lemmas.List.Folds.{list_any-append}
-use Rattle.std.proofs.lemmas.Bool.{cases_lt, lt-leb, le-leb, or_right}
-use Rattle.mr_version.specs.Name.{Name}
-use Rattle.mr_forms.specs.Sets.{Versions}
-use Rattle.mr_concise.specs.Next.{IsNextOut, IsNextIn, HasNoneFrom}
-use Rattle.mr_forms.specs.Runs.{HasNoneOf}
-use Rattle.mr_forms.specs.Runs.{HasNoAuthorFrom, IsNextAuthor}
-use Rattle.mr_concise.specs.AnyOf.{in_any, lower_of}
-use Rattle.mr_concise.specs.inner.AnyOf.{IsPassed}
-use Rattle.mr_concise.specs.declared.column.TheConstants.{COUNTERS_END}
+use Rattle.mr_concise.proofs.Names.{COUNTERS_END, HasNoAuthorFrom, HasNoneFrom, HasNoneOf, IfSome, IsNextAuthor, IsNextIn, IsNextOut, IsPassed, Name}
+use Rattle.mr_concise.proofs.Names.{Versions, cases_lt, in_any, le-leb, list_any-append, lower_of, lt-leb, or_right, take_more}
 
 or_none : (b : Bool) → (b || false) ≡ b
 or_none b = grind arith

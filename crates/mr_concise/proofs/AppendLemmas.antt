@@ -1,21 +1,9 @@
 use Rattle.std.proofs.Common.{inl, inr, ◌⊎◌, ◌≡◌, ◌<◌, ◌≤◌, ◌+◌, ◌-◌, ◌==◌, ◌&&◌, ◌||◌, ℕ, Bool, true, false, nat_lt, nat_le, refl, ap, sym, ◌∙◌, arith, List, [], ◌∷◌, ◌++◌, length, get_or, set, take, zero, suc, add-one}
-use Rattle.std.specs.Prelude.{if◌then◌else◌, AllPairs}
-use Rattle.std.proofs.lemmas.Bool.{cases_Bool, cases_lt, lt-ltb, lt-leb, eq-eqb, eqb-true, false≢true, and_parts, leb-true}
-use Rattle.std.proofs.lemmas.Bool.Decides.{nat_tests}
-use Rattle.std.proofs.lemmas.List.Folds.{list_any_more}
-use Rattle.mr_version.specs.Name.{Name}
-use Rattle.mr_version.specs.declared.version.TheConstants.{MAX_COUNTER}
-use Rattle.mr_forms.specs.Sets.{IsSame}
-use Rattle.mr_forms.specs.declared.run.Run.{Run}
-use Rattle.mr_forms.specs.Runs.{in_run, in_runs, with_run, StandsBefore}
-use Rattle.mr_concise.specs.Edges.{IsRising}
-use Rattle.mr_concise.specs.inner.Edges.{is_on}
+use Rattle.mr_concise.proofs.Names.{AllPairs, AuthorColumn, Extent, Hole, IsColumn, IsRising, IsSame, IsVectorFrom, MAX_COUNTER, MAX_HOLES, Name, Run}
+use Rattle.mr_concise.proofs.Names.{StandsBefore, and_parts, cases_Bool, cases_lt, column_has, column_of, edges, eq-eqb, eqb-true, false≢true, gap}
+use Rattle.mr_concise.proofs.Names.{if◌then◌else◌, in_run, in_runs, is_on, leb-true, list_any_more, lt-leb, lt-ltb, nat_tests, vector_has, with_column}
+use Rattle.mr_concise.proofs.Names.{with_run}
 use Rattle.mr_concise.proofs.EdgeLemmas.{IsRising-end}
-use Rattle.mr_concise.specs.declared.column.Hole.{Hole}
-use Rattle.mr_concise.specs.declared.column.TheConstants.{MAX_HOLES}
-use Rattle.mr_concise.specs.Column.{Extent, edges, column_has, gap, IsColumn}
-use Rattle.mr_concise.specs.declared.vector.AuthorColumn.{AuthorColumn}
-use Rattle.mr_concise.specs.Vector.{column_of, vector_has, IsVectorFrom, with_column}
 use Rattle.mr_concise.proofs.ColumnLemmas.{column_has-edges}
 use Rattle.mr_concise.proofs.InsertLemmas.{to_end, with_counter-means}
 use Rattle.mr_concise.proofs.UnionLemmas.{bound-on, column_of-IsColumn}

@@ -1,16 +1,7 @@
 use Rattle.std.proofs.Common.{inl, inr, ◌⊎◌, ◌≡◌, ◌<◌, ◌≤◌, ◌+◌, ◌==◌, ◌||◌, ℕ, Bool, true, false, cond, refl, ap, sym, subst, ◌∙◌, arith, List, [], ◌∷◌, ◌++◌, length, get_or, take, add-one}
-use Rattle.std.proofs.lemmas.Bool.{cases_lt, cases_eq, true≢false, false≢true, eq-eqb, ne_eqb, le-leb, or_right}
-use Rattle.mr_version.specs.Name.{Name}
-use Rattle.mr_forms.specs.declared.run.Run.{Run}
-use Rattle.mr_forms.specs.Runs.{in_run, with_run, of_author}
-use Rattle.mr_forms.specs.Sets.{Versions, both, IsSame}
-use Rattle.mr_concise.specs.Column.{Extent, column_has, empty_column, IsColumn}
-use Rattle.mr_concise.specs.inner.Column.{ColumnCovers}
-use Rattle.mr_concise.specs.Source.{IsColumnOf}
-use Rattle.mr_concise.specs.inner.Source.{HasFewHoles, HasManyHoles}
-use Rattle.mr_concise.specs.declared.vector.AuthorColumn.{AuthorColumn}
-use Rattle.mr_concise.specs.Vector.{column_of, vector_has, IsVectorFrom, with_column, HasTooManyHoles}
-use Rattle.mr_concise.specs.inner.Vector.{in_column, AreColumns, with_columns}
+use Rattle.mr_concise.proofs.Names.{AreColumns, AuthorColumn, ColumnCovers, Extent, HasFewHoles, HasManyHoles, HasTooManyHoles, IsColumn, IsColumnOf, IsSame}
+use Rattle.mr_concise.proofs.Names.{IsVectorFrom, Name, Run, Versions, both, cases_eq, cases_lt, column_has, column_of, empty_column, eq-eqb, false≢true}
+use Rattle.mr_concise.proofs.Names.{in_column, in_run, le-leb, ne_eqb, of_author, or_right, true≢false, vector_has, with_column, with_columns, with_run}
 use Rattle.mr_concise.proofs.ColumnLemmas.{column_has-edges}
 use Rattle.mr_concise.proofs.VectorLemmas.{column_of-with_column, IsVectorFrom-with_column}
 use Rattle.mr_concise.proofs.UnionLemmas.{column_has-empty, column_of-IsColumn, column_of-item, column_of-take_before, column_of-take_more, item-IsColumn, bound-on, with_columns-push, AreColumns-push}

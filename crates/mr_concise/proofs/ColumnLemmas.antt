@@ -1,11 +1,6 @@
 use Rattle.std.proofs.Common.{inl, inr, ◌≡◌, ◌<◌, ◌≤◌, ◌+◌, ◌&&◌, ℕ, true, false, not, nat_le, refl, ap, sym, ◌∙◌, arith, List, [], ◌∷◌, ◌++◌}
-use Rattle.std.specs.List.{list_any}
-use Rattle.std.proofs.lemmas.Bool.{cases_lt, le-leb, lt-leb, and_right}
-use Rattle.mr_concise.specs.Edges.{IsRising}
-use Rattle.mr_concise.specs.inner.Edges.{is_on}
+use Rattle.mr_concise.proofs.Names.{Extent, Hole, IsRising, and_right, cases_lt, column_has, edges, hole_edges, hole_has, is_on, le-leb, list_any, lt-leb}
 use Rattle.mr_concise.proofs.EdgeLemmas.{is_on-before, is_on-turn, is_on-stay, edges_unique, IsRising-end, IsRising-lower}
-use Rattle.mr_concise.specs.declared.column.Hole.{Hole}
-use Rattle.mr_concise.specs.Column.{Extent, hole_edges, edges, hole_has, column_has}
 
 -- in the holes' own words: c is on where it is at most the bound and in no hole
 is_on-holes : (upto low : ℕ) (holes : List Hole) (c : ℕ) → low < c → IsRising low (hole_edges holes ++ (upto + 1) ∷ []) → is_on true (hole_edges holes ++ (upto + 1) ∷ []) c ≡ (nat_le c upto && not (list_any (λ hole. hole_has hole c) holes))

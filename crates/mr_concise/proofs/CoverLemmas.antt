@@ -1,14 +1,7 @@
 use Rattle.std.proofs.Common.{inl, inr, ◌⊎◌, ◌≡◌, ◌<◌, ◌≤◌, ◌+◌, ◌==◌, ℕ, Bool, true, false, nat_le, cond, ap, sym, ◌∙◌, arith, List, [], ◌∷◌, ◌++◌, length, get_or, take, suc, zero, add-one}
-use Rattle.std.proofs.lemmas.List.{get_or_default}
-use Rattle.std.proofs.lemmas.List.Folds.{list_any_at, list_any_none}
-use Rattle.std.proofs.lemmas.Bool.{cases_lt, cases_eq, true≢false, false≢true, eq-eqb, ne_eqb, le-leb, and_parts, and_right, leb-true}
-use Rattle.mr_forms.specs.Sets.{Covers}
-use Rattle.mr_concise.specs.Edges.{IsRising}
-use Rattle.mr_concise.specs.declared.column.Hole.{Hole}
-use Rattle.mr_concise.specs.Column.{Extent, hole_edges, column_has, IsColumn}
-use Rattle.mr_concise.specs.inner.Column.{ColumnCovers}
-use Rattle.mr_concise.specs.declared.vector.AuthorColumn.{AuthorColumn}
-use Rattle.mr_concise.specs.Vector.{column_of, vector_has, IsVectorFrom}
+use Rattle.mr_concise.proofs.Names.{AuthorColumn, ColumnCovers, Covers, Extent, Hole, IsColumn, IsRising, IsVectorFrom, and_parts, and_right, cases_eq}
+use Rattle.mr_concise.proofs.Names.{cases_lt, column_has, column_of, eq-eqb, false≢true, get_or_default, hole_edges, le-leb, leb-true, list_any_at}
+use Rattle.mr_concise.proofs.Names.{list_any_none, ne_eqb, true≢false, vector_has}
 use Rattle.mr_concise.proofs.ColumnLemmas.{column_has-edges}
 use Rattle.mr_concise.proofs.UnionLemmas.{bound-on, column_has-empty, column_of-item, column_of-take_more}
 use Rattle.mr_concise.proofs.LastLemmas.{column_has-above}

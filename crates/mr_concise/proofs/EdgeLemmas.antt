@@ -1,7 +1,5 @@
 use Rattle.std.proofs.Common.{inl, inr, ◌⊎◌, ◌≡◌, ◌<◌, ◌≤◌, ℕ, Bool, not, refl, sym, ◌∙◌, arith, List, [], ◌∷◌, ◌++◌, length}
-use Rattle.std.proofs.lemmas.Bool.{true≢false, false≢true, cases_order, lt-ltb, le-ltb, cases_lt}
-use Rattle.mr_concise.specs.Edges.{IsRising}
-use Rattle.mr_concise.specs.inner.Edges.{is_on}
+use Rattle.mr_concise.proofs.Names.{IsRising, cases_lt, cases_order, false≢true, is_on, le-ltb, lt-ltb, true≢false}
 
 pub not≢self : (b : Bool) → b ≡ not b → ⊥
 not≢self b h = grind (arith, true≢false, false≢true)

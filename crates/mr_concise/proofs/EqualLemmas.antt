@@ -1,16 +1,10 @@
 use Rattle.std.proofs.Common.{◌≡◌, ◌==◌, ◌↔◌, ℕ, ap, ◌∙◌, List, arith}
-use Rattle.std.specs.Prelude.{IsTrue}
+use Rattle.mr_concise.proofs.Names.{AuthorColumn, Extent, Hole, IsSame, IsTrue, IsVectorFrom, and_parts, column_of, vector_has}
 use Rattle.std.specs.Bool.{Decides}
 use Rattle.std.specs.Cmp.{unsigned_Decides}
 use Rattle.std.specs.Cmp.Lexicographic.{pointwise, pointwise_decides}
 use Rattle.std.specs.Cmp.Derive.{both_true}
-use Rattle.std.proofs.lemmas.Bool.{and_parts}
-use Rattle.mr_forms.specs.Sets.{IsSame}
-use Rattle.mr_concise.specs.declared.column.Hole.{Hole}
-use Rattle.mr_concise.specs.declared.vector.AuthorColumn.{AuthorColumn}
-use Rattle.mr_concise.specs.Column.{Extent}
 use Rattle.mr_concise.specs.Equal.{hole_eq, extent_eq, author_column_eq, vector_eq}
-use Rattle.mr_concise.specs.Vector.{column_of, vector_has, IsVectorFrom}
 use Rattle.mr_concise.proofs.ColumnLemmas.{column_unique}
 use Rattle.mr_concise.proofs.VectorLemmas.{vector_unique}
 use Rattle.mr_concise.proofs.UnionLemmas.{column_of-IsColumn}

@@ -1,11 +1,7 @@
 use Rattle.std.proofs.Common.{inl, inr, ◌≡◌, ap, sym, ◌∙◌, arith, List, [], ◌∷◌, ◌++◌, length, All, length-append, append_assoc}
-use Rattle.std.specs.List.{AllZip, Any}
-use Rattle.std.proofs.lemmas.Bool.{cases_lt}
-use Rattle.std.proofs.lemmas.List.{get_or_append_left, append-nil}
-use Rattle.std.proofs.Math.Seq.{get_or-append_seam}
+use Rattle.mr_concise.proofs.Names.{AllZip, Any, ConciseFragment, IsConciseOf, IsTooHoley, Versions, append-nil, cases_lt, get_or-append_seam}
+use Rattle.mr_concise.proofs.Names.{get_or_append_left}
 use Rattle.mr_forms.specs.declared.fragment.Fragment.{Fragment}
-use Rattle.mr_forms.specs.Sets.{Versions}
-use Rattle.mr_concise.specs.Fragments.{ConciseFragment, IsConciseOf, IsTooHoley}
 
 -- one element more in each list
 AllZip-last : {X Y : Type 0} (R : X → Y → Type 0) (xs : List X) (ys : List Y) (x : X) (y : Y) → AllZip R xs ys → R x y → AllZip R (xs ++ x ∷ []) (ys ++ y ∷ [])

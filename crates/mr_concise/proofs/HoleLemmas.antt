@@ -1,11 +1,6 @@
 use Rattle.std.proofs.Common.{inl, inr, ◌⊎◌, ◌≡◌, ◌<◌, ◌≤◌, ◌+◌, ◌-◌, ℕ, true, false, nat_lt, refl, ap, sym, ◌∙◌, arith, List, [], ◌∷◌, ◌++◌, length, get_or, take, drop, set, suc, zero, add-one, length-append, length-drop}
-use Rattle.std.proofs.lemmas.List.{get_or_default, length-take-le}
-use Rattle.std.specs.List.Sorted.{IsNonDecreasingBy, IsPartitionPoint}
-use Rattle.std.proofs.lemmas.Bool.{cases_lt, le-leb, lt-leb, lt-ltb, le-ltb, ltb-true, ltb-false}
-use Rattle.mr_concise.specs.Edges.{IsRising}
-use Rattle.mr_concise.specs.declared.column.Hole.{Hole}
-use Rattle.mr_concise.specs.Column.{hole_edges, gap, filled}
-use Rattle.mr_concise.specs.inner.Column.{AreApart}
+use Rattle.mr_concise.proofs.Names.{AreApart, Hole, IsNonDecreasingBy, IsPartitionPoint, IsRising, cases_lt, filled, gap, get_or_default, hole_edges, le-leb}
+use Rattle.mr_concise.proofs.Names.{le-ltb, length-take-le, lt-leb, lt-ltb, ltb-false, ltb-true}
 
 last-above : (low : ℕ) (holes : List Hole) (end j : ℕ) (d : Hole) → IsRising low (hole_edges holes ++ end ∷ []) → j < length holes → low ≤ (get_or holes j d).last
 last-above low [] end j d r l = absurd (omega arith)

@@ -1,13 +1,7 @@
 use Rattle.std.proofs.Common.{inl, inr, ◌≡◌, ◌<◌, ◌≤◌, ◌+◌, ◌-◌, ◌==◌, ◌||◌, ℕ, Bool, true, false, nat_lt, refl, arith, List, [], ◌∷◌, ◌++◌, length, append-nil}
-use Rattle.std.proofs.lemmas.Bool.{cases_lt, cases_eq, le-leb, lt-leb, lt-ltb, le-ltb, eq-eqb, ne_eqb}
-use Rattle.std.specs.Prelude.{if◌then◌else◌}
-use Rattle.std.proofs.lemmas.Bool.Decides.{nat_tests}
-use Rattle.mr_version.specs.declared.version.TheConstants.{MAX_COUNTER}
-use Rattle.mr_concise.specs.Edges.{IsRising}
-use Rattle.mr_concise.specs.inner.Edges.{is_on}
+use Rattle.mr_concise.proofs.Names.{Extent, Hole, IsColumn, IsRising, MAX_COUNTER, cases_eq, cases_lt, column_has, edges, eq-eqb, filled, gap, hole_edges}
+use Rattle.mr_concise.proofs.Names.{if◌then◌else◌, is_on, le-leb, le-ltb, lt-leb, lt-ltb, nat_tests, ne_eqb, with_counter}
 use Rattle.mr_concise.proofs.EdgeLemmas.{is_on-before, is_on-stay, IsRising-end, IsRising-lower}
-use Rattle.mr_concise.specs.declared.column.Hole.{Hole}
-use Rattle.mr_concise.specs.Column.{Extent, hole_edges, edges, gap, filled, with_counter, column_has, IsColumn}
 use Rattle.mr_concise.proofs.ColumnLemmas.{column_has-edges, column_has-zero}
 
 -- the edges of holes and of a bound's end

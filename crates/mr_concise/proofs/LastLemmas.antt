@@ -1,13 +1,8 @@
 use Rattle.std.proofs.Common.{◌≡◌, ◌≤◌, ◌<◌, ◌+◌, ◌⊎◌, inl, inr, nat_lt, ap, sym, get_or, length, ℕ, true, false, nat_le, refl, ◌∙◌, arith, List, [], ◌∷◌}
-use Rattle.std.proofs.lemmas.Bool.{lt-leb, and_parts, and_right, cases_lt, false≢true, leb-true, ltb-true, ltb-false, lt-ltb, le-ltb, ne_eqb}
-use Rattle.std.specs.List.Sorted.{IsPartitionPoint}
-use Rattle.mr_forms.specs.Runs.{IsNextAuthor, HasNoAuthorFrom}
+use Rattle.mr_concise.proofs.Names.{AuthorColumn, Extent, HasNoAuthorFrom, HasVersionsAlone, IsColumn, IsNextAuthor, IsPartitionPoint, IsVectorFrom}
+use Rattle.mr_concise.proofs.Names.{IsVersion, and_parts, and_right, cases_lt, column_has, column_of, empty_column, false≢true, le-ltb, leb-true, lt-leb}
+use Rattle.mr_concise.proofs.Names.{lt-ltb, ltb-false, ltb-true, ne_eqb, vector_has}
 use Rattle.mr_concise.proofs.VectorLemmas.{column_of-missed, column_of-past}
-use Rattle.mr_concise.specs.declared.vector.AuthorColumn.{AuthorColumn}
-use Rattle.mr_version.specs.Name.{IsVersion}
-use Rattle.mr_forms.specs.Runs.{HasVersionsAlone}
-use Rattle.mr_concise.specs.Column.{Extent, column_has, empty_column, IsColumn}
-use Rattle.mr_concise.specs.Vector.{column_of, vector_has, IsVectorFrom}
 use Rattle.mr_concise.specs.Last.{IsLast}
 use Rattle.mr_concise.proofs.ColumnLemmas.{column_has-edges}
 use Rattle.mr_concise.proofs.UnionLemmas.{column_of-IsColumn, bound-on, item-IsColumn, column_has-empty}

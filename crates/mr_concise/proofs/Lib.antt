@@ -1,3 +1,4 @@
+pub mod Names
 pub mod NameLemmas
 pub mod EdgeLemmas
 pub mod ColumnLemmas

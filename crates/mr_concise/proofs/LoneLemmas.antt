@@ -1,10 +1,6 @@
 use Rattle.std.proofs.Common.{◌≡◌, ◌≤◌, ℕ, Bool, true, false, ◌||◌, refl, ap, arith, List, length}
-use Rattle.mr_forms.specs.Sets.{Versions, IsSame, both}
-use Rattle.mr_forms.specs.Runs.{of_author}
-use Rattle.mr_concise.specs.declared.vector.AuthorColumn.{AuthorColumn}
-use Rattle.mr_concise.specs.Column.{Extent, column_has}
-use Rattle.mr_concise.specs.Source.{IsColumnOf, HasAtLeastHoles}
-use Rattle.mr_concise.specs.Vector.{column_of, vector_has, IsVectorFrom, HasTooManyHoles}
+use Rattle.mr_concise.proofs.Names.{AuthorColumn, Extent, HasAtLeastHoles, HasTooManyHoles, IsColumnOf, IsSame, IsVectorFrom, Versions, both, column_has}
+use Rattle.mr_concise.proofs.Names.{column_of, of_author, vector_has}
 use Rattle.mr_concise.proofs.LastLemmas.{column_has-above}
 use Rattle.mr_concise.proofs.SweepLemmas.{IsColumnOf-unique, few-from_column, few-of_authors}
 use Rattle.mr_concise.proofs.UnionLemmas.{column_of-IsColumn}

@@ -1,21 +1,10 @@
 -- Why a union that gives up has too many holes. Each set of counters that ends has a column (`column-exists`); the holes
 -- that were found so far are edges at which it turns too, so it has at least as many (`found-fewer`).
 use Rattle.std.proofs.Common.{not, inl, inr, ◌⊎◌, ◌≡◌, ◌<◌, ◌≤◌, ◌+◌, ◌||◌, ◌&&◌, ◌==◌, ℕ, Bool, true, false, nat_lt, nat_le, refl, ap, sym, subst, ◌∙◌, arith, List, [], ◌∷◌, ◌++◌, length, length-append, zero, suc, add-one, get_or, Option, Some}
-use Rattle.std.specs.Prelude.{if◌then◌else◌, IfNone}
-use Rattle.std.proofs.lemmas.Bool.{cases_lt, cases_eq, cases_Bool, true≢false, lt-ltb, le-ltb, le-leb, lt-leb, eq-eqb, ne_eqb}
-use Rattle.mr_version.specs.declared.version.TheConstants.{MAX_COUNTER}
-use Rattle.mr_concise.specs.declared.column.TheConstants.{MAX_HOLES}
-use Rattle.mr_forms.specs.Sets.{both}
-use Rattle.mr_forms.specs.Runs.{of_author}
-use Rattle.mr_concise.specs.Edges.{IsRising}
-use Rattle.mr_concise.specs.inner.Edges.{is_on}
+use Rattle.mr_concise.proofs.Names.{AuthorColumn, Extent, HasManyHoles, HasTooManyHoles, Hole, IfNone, IsColumnOf, IsRising, IsVectorFrom, MAX_COUNTER}
+use Rattle.mr_concise.proofs.Names.{MAX_HOLES, both, cases_Bool, cases_eq, cases_lt, column_has, column_of, edges, empty_column, eq-eqb, hole_edges}
+use Rattle.mr_concise.proofs.Names.{if◌then◌else◌, is_on, le-leb, le-ltb, lt-leb, lt-ltb, ne_eqb, of_author, true≢false, vector_has, with_counter}
 use Rattle.mr_concise.proofs.EdgeLemmas.{is_on-before, edges_fewer}
-use Rattle.mr_concise.specs.declared.column.Hole.{Hole}
-use Rattle.mr_concise.specs.Column.{Extent, hole_edges, edges, column_has, empty_column, with_counter}
-use Rattle.mr_concise.specs.Source.{IsColumnOf}
-use Rattle.mr_concise.specs.inner.Source.{HasManyHoles}
-use Rattle.mr_concise.specs.declared.vector.AuthorColumn.{AuthorColumn}
-use Rattle.mr_concise.specs.Vector.{column_of, vector_has, IsVectorFrom, HasTooManyHoles}
 use Rattle.mr_concise.proofs.ColumnLemmas.{column_has-edges}
 use Rattle.mr_concise.proofs.InsertLemmas.{with_counter-means}
 use Rattle.mr_concise.proofs.UnionLemmas.{column_has-empty, IsColumn-empty, column_of-item, item-IsColumn}

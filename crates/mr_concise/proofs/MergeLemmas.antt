@@ -1,13 +1,7 @@
 use Rattle.std.proofs.Common.{inl, inr, ◌⊎◌, ◌≡◌, ◌<◌, ◌≤◌, ◌+◌, ◌-◌, ◌||◌, ℕ, Bool, true, false, nat_lt, refl, ap, sym, ◌∙◌, arith, List, [], ◌∷◌, ◌++◌}
-use Rattle.std.specs.Prelude.{if◌then◌else◌}
-use Rattle.std.proofs.lemmas.Bool.{cases_lt, cases_eq, true≢false, lt-ltb, le-ltb, le-leb, or_left, or_right}
-use Rattle.mr_version.specs.declared.version.TheConstants.{MAX_COUNTER}
-use Rattle.mr_concise.specs.Edges.{IsRising}
-use Rattle.mr_concise.specs.inner.Edges.{is_on}
-use Rattle.mr_concise.specs.declared.column.Hole.{Hole}
-use Rattle.mr_concise.specs.Column.{Extent, hole_edges, edges, column_has}
-use Rattle.mr_concise.specs.inner.Next.{IsHoleFrom, HasNoHoleFrom, IsGapFrom}
-use Rattle.mr_concise.specs.Source.{IsColumnOf}
+use Rattle.mr_concise.proofs.Names.{Extent, HasNoHoleFrom, Hole, IsColumnOf, IsGapFrom, IsHoleFrom, IsRising, MAX_COUNTER, cases_eq, cases_lt, column_has}
+use Rattle.mr_concise.proofs.Names.{edges, hole_edges, if◌then◌else◌, is_on, le-leb, le-ltb, lt-ltb, or_right, true≢false}
+use Rattle.std.proofs.lemmas.Bool.{or_left}
 use Rattle.mr_concise.proofs.ColumnLemmas.{column_has-edges}
 use Rattle.mr_concise.proofs.LastLemmas.{column_has-above}
 use Rattle.mr_concise.proofs.SweepLemmas.{extend}

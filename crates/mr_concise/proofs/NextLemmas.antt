@@ -1,12 +1,7 @@
 use Rattle.std.proofs.Common.{inl, inr, ◌≡◌, ◌<◌, ◌≤◌, ◌+◌, ℕ, true, false, nat_lt, ap, sym, ◌∙◌, arith, List, [], ◌∷◌, ◌++◌, length, get_or, suc, zero}
-use Rattle.std.specs.List.Sorted.{IsPartitionPoint}
-use Rattle.std.proofs.lemmas.Bool.{cases_lt, lt-leb, le-leb, ltb-true, ltb-false}
-use Rattle.mr_concise.specs.Edges.{IsRising}
-use Rattle.mr_concise.specs.inner.Edges.{is_on}
+use Rattle.mr_concise.proofs.Names.{Extent, HasNoHoleFrom, Hole, IsColumn, IsHoleFrom, IsPartitionPoint, IsRising, cases_lt, column_has, hole_edges, is_on}
+use Rattle.mr_concise.proofs.Names.{le-leb, lt-leb, ltb-false, ltb-true}
 use Rattle.mr_concise.proofs.EdgeLemmas.{is_on-before, is_on-turn, is_on-stay, IsRising-end}
-use Rattle.mr_concise.specs.declared.column.Hole.{Hole}
-use Rattle.mr_concise.specs.Column.{Extent, hole_edges, column_has, IsColumn}
-use Rattle.mr_concise.specs.inner.Next.{IsHoleFrom, HasNoHoleFrom}
 use Rattle.mr_concise.proofs.ColumnLemmas.{column_has-edges}
 
 -- past a hole only what follows it counts

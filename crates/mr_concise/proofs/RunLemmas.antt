@@ -1,22 +1,10 @@
 use Rattle.std.proofs.Common.{inl, inr, ◌⊎◌, ◌≡◌, ◌<◌, ◌≤◌, ◌+◌, ◌-◌, ◌==◌, ◌&&◌, ◌||◌, ℕ, Bool, true, false, nat_le, nat_lt, refl, ap, sym, ◌∙◌, arith, List, [], ◌∷◌, ◌++◌, length, get_or, drop, All, suc, zero, length-append, take, add-one, cond}
 use Rattle.std.specs.List.{AllPairs}
-use Rattle.std.proofs.lemmas.Bool.{cases_lt, cases_eq, eq-eqb, ne_eqb, lt-leb, le-leb}
-use Rattle.std.proofs.lemmas.Bool.Decides.{nat_tests}
-use Rattle.std.proofs.lemmas.Grind.{common_steps}
-use Rattle.std.proofs.lemmas.List.Folds.{list_any-append}
-use Rattle.std.proofs.lemmas.List.{get_or_append_left}
-use Rattle.std.proofs.Math.Seq.{get_or-append_seam}
-use Rattle.mr_version.specs.Name.{Name}
-use Rattle.mr_forms.specs.declared.run.Run.{Run}
-use Rattle.mr_forms.specs.Runs.{in_run, in_runs, StandsBefore}
-use Rattle.mr_concise.specs.Edges.{IsRising}
-use Rattle.mr_concise.specs.inner.Edges.{is_on}
+use Rattle.mr_concise.proofs.Names.{AuthorColumn, Extent, Hole, IsColumn, IsRising, IsVectorFrom, Name, Run, StandsBefore, cases_eq, cases_lt, column_has}
+use Rattle.mr_concise.proofs.Names.{column_of, common_steps, eq-eqb, get_or-append_seam, get_or_append_left, hole_edges, in_run, in_runs, is_on, le-leb}
+use Rattle.mr_concise.proofs.Names.{list_any-append, lt-leb, nat_tests, ne_eqb, vector_has}
 use Rattle.mr_concise.proofs.EdgeLemmas.{is_on-turn, is_on-stay, IsRising-end, IsRising-lower}
-use Rattle.mr_concise.specs.declared.column.Hole.{Hole}
-use Rattle.mr_concise.specs.Column.{Extent, hole_edges, column_has, IsColumn}
 use Rattle.mr_concise.specs.inner.Runs.{EndBefore, AddsRuns}
-use Rattle.mr_concise.specs.declared.vector.AuthorColumn.{AuthorColumn}
-use Rattle.mr_concise.specs.Vector.{column_of, vector_has, IsVectorFrom}
 use Rattle.mr_concise.proofs.UnionLemmas.{column_of-under, column_of-take_more, column_of-take_before, column_has-empty}
 use Rattle.mr_concise.proofs.ColumnLemmas.{column_has-edges, column_has-zero}
 

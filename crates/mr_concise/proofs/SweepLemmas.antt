@@ -1,26 +1,14 @@
 use Rattle.std.proofs.Common.{inl, inr, ◌≡◌, ◌<◌, ◌≤◌, ◌+◌, ◌-◌, ◌==◌, ◌&&◌, ℕ, Bool, true, false, nat_lt, cond, refl, ap, sym, ◌∙◌, arith, List, [], ◌∷◌, ◌++◌, length, length-append}
-use Rattle.std.specs.Prelude.{if◌then◌else◌, Result, OnOk, IsErrOf}
-use Rattle.std.proofs.lemmas.Bool.{cases_lt, cases_eq, true≢false, eq-eqb, ne_eqb, lt-ltb, le-ltb}
-use Rattle.std.proofs.lemmas.Bool.Decides.{nat_tests}
-use Rattle.mr_forms.specs.declared.fault.FormFault.{FormFault}
-use Rattle.mr_forms.specs.declared.fault.FormFault.TheVariants.{TooManyHoles}
-use Rattle.mr_forms.specs.Sets.{Versions, IsSame}
-use Rattle.mr_concise.specs.Edges.{IsRising}
-use Rattle.mr_concise.specs.inner.Edges.{is_on}
+use Rattle.mr_concise.proofs.Names.{AuthorColumn, COUNTERS_END, ColumnsHaveAtMost, Extent, FormFault, HasAtLeastHoles, HasAtMostHoles, HasFewHoles}
+use Rattle.mr_concise.proofs.Names.{HasFewerHoles, HasHoles, HasManyHoles, HasNoAuthorFrom, HasNoneFrom, HasTooManyHoles, Hole, IsColumn, IsColumnOf, IsErrOf}
+use Rattle.mr_concise.proofs.Names.{IsNextAuthor, IsNextIn, IsNextOut, IsRising, IsSame, IsVectorFrom, OnOk, Result, TooManyHoles, Versions, cases_eq}
+use Rattle.mr_concise.proofs.Names.{cases_lt, column_has, column_of, edges, empty_column, eq-eqb, hole_edges, if◌then◌else◌, is_on, le-ltb, lt-ltb, nat_tests}
+use Rattle.mr_concise.proofs.Names.{ne_eqb, of_author, true≢false, vector_has, with_column}
 use Rattle.mr_concise.proofs.EdgeLemmas.{IsRising-end, is_on-before, edges_fewer}
-use Rattle.mr_concise.specs.declared.column.Hole.{Hole}
-use Rattle.mr_concise.specs.declared.vector.AuthorColumn.{AuthorColumn}
-use Rattle.mr_concise.specs.Column.{Extent, hole_edges, edges, column_has, empty_column, IsColumn}
-use Rattle.mr_concise.specs.Next.{IsNextOut, IsNextIn, HasNoneFrom}
-use Rattle.mr_forms.specs.Runs.{of_author, HasNoAuthorFrom, IsNextAuthor}
-use Rattle.mr_concise.specs.Source.{IsColumnOf, HasHoles, HasAtMostHoles, ColumnsHaveAtMost, HasFewerHoles, HasAtLeastHoles}
-use Rattle.mr_concise.specs.inner.Source.{HasFewHoles, HasManyHoles}
-use Rattle.mr_concise.specs.Vector.{column_of, vector_has, IsVectorFrom, with_column, HasTooManyHoles}
 use Rattle.mr_concise.proofs.ColumnLemmas.{column_unique, column_has-edges}
 use Rattle.mr_concise.proofs.VectorLemmas.{column_of-with_column, IsVectorFrom-with_column}
 use Rattle.mr_concise.proofs.UnionLemmas.{column_has-empty, IsColumn-empty}
 use Rattle.mr_concise.proofs.LastLemmas.{column_has-above}
-use Rattle.mr_concise.specs.declared.column.TheConstants.{COUNTERS_END}
 
 bool-extend : (c at t e : ℕ) → at < t → t < e → (if nat_lt c at then true else (if nat_lt c t then false else (if nat_lt c e then true else false))) ≡ (if nat_lt c t then (if nat_lt c at then true else false) else nat_lt c e)
 bool-extend c at t e l m = grind (arith, nat_tests)

@@ -1,7 +1,6 @@
 -- what a walk writes, element by element
 use Rattle.std.proofs.Common.{◌≡◌, ◌<◌, ◌+◌, ◌∙◌, ℕ, List, [], ◌++◌, ap, sym, length, take, get_or}
-use Rattle.std.specs.List.{flat_map}
-use Rattle.std.proofs.lemmas.List.{flat_map_more, take_more}
+use Rattle.mr_concise.proofs.Names.{flat_map, flat_map_more, take_more}
 
 -- the texts of the elements up to here, and the text of the one that is here
 pub flat_map-at : {X : Type 0} (text : X → List ℕ) (xs : List X) (i : ℕ) (d : X) → i < length xs → flat_map text (take i xs) ++ text (get_or xs i d) ≡ flat_map text (take (i + 1) xs)

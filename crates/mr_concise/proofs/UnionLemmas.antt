@@ -1,16 +1,7 @@
 use Rattle.std.proofs.Common.{inl, inr, ◌≡◌, ◌<◌, ◌≤◌, ◌+◌, ◌==◌, ℕ, true, false, cond, refl, ap, sym, ◌∙◌, arith, List, [], ◌∷◌, ◌++◌, length, get_or, take, suc, zero, add-one, append_assoc, length-append}
-use Rattle.std.proofs.Math.Seq.{get_or-append_seam}
-use Rattle.std.proofs.lemmas.List.{get_or_append_left}
-use Rattle.std.proofs.lemmas.Bool.{cases_lt, cases_eq, eq-eqb, ne_eqb}
-use Rattle.std.proofs.lemmas.Bool.Decides.{nat_tests}
-use Rattle.mr_concise.specs.Edges.{IsRising}
-use Rattle.mr_concise.specs.inner.Edges.{is_on}
+use Rattle.mr_concise.proofs.Names.{AreColumns, AuthorColumn, Hole, IsColumn, IsRising, IsVectorFrom, cases_eq, cases_lt, column_has, column_of, empty_column}
+use Rattle.mr_concise.proofs.Names.{eq-eqb, get_or-append_seam, get_or_append_left, hole_edges, is_on, nat_tests, ne_eqb, with_column, with_columns}
 use Rattle.mr_concise.proofs.EdgeLemmas.{is_on-turn, is_on-stay, IsRising-end}
-use Rattle.mr_concise.specs.declared.column.Hole.{Hole}
-use Rattle.mr_concise.specs.Column.{hole_edges, column_has, empty_column, IsColumn}
-use Rattle.mr_concise.specs.declared.vector.AuthorColumn.{AuthorColumn}
-use Rattle.mr_concise.specs.Vector.{column_of, IsVectorFrom, with_column}
-use Rattle.mr_concise.specs.inner.Vector.{AreColumns, with_columns}
 use Rattle.mr_concise.proofs.VectorLemmas.{IsVectorFrom-with_column}
 
 pub IsColumn-empty : IsColumn empty_column

@@ -1,16 +1,8 @@
 use Rattle.std.proofs.Common.{inl, inr, ◌⊎◌, ◌≡◌, ◌<◌, ◌≤◌, ◌==◌, ◌&&◌, ◌||◌, ℕ, true, false, cond, refl, ap, sym, ◌∙◌, arith, List, length, get_or, set, nat_lt, Result}
-use Rattle.std.specs.Prelude.{OnOk, OnErr, IsErrOf}
-use Rattle.mr_forms.specs.declared.fault.FormFault.{FormFault}
-use Rattle.mr_forms.specs.declared.fault.FormFault.TheVariants.{TooManyHoles}
-use Rattle.std.proofs.lemmas.Bool.{cases_eq, cases_lt, lt-ltb, le-ltb, eq-eqb, ne_eqb, lt-leb, le-leb}
-use Rattle.mr_version.specs.Name.{Name, name_eq}
-use Rattle.mr_forms.specs.Sets.{with_version}
-use Rattle.mr_version.specs.declared.version.TheConstants.{MAX_COUNTER}
+use Rattle.mr_concise.proofs.Names.{AuthorColumn, Extent, FormFault, HasTooManyHoles, IsErrOf, IsVectorFrom, MAX_COUNTER, Name, OnErr, OnOk, TooManyHoles}
+use Rattle.mr_concise.proofs.Names.{cases_eq, cases_lt, column_has, column_of, empty_column, eq-eqb, le-leb, le-ltb, lt-leb, lt-ltb, name_eq, ne_eqb}
+use Rattle.mr_concise.proofs.Names.{vector_has, with_column, with_counter, with_one, with_version}
 use Rattle.mr_concise.proofs.NameLemmas.{name_eq_parts}
-use Rattle.mr_concise.specs.Column.{Extent, column_has, with_counter, empty_column}
-use Rattle.mr_concise.specs.declared.vector.AuthorColumn.{AuthorColumn}
-use Rattle.mr_concise.specs.Vector.{column_of, vector_has, IsVectorFrom, with_column, HasTooManyHoles}
-use Rattle.mr_concise.specs.inner.Vector.{with_one}
 use Rattle.mr_concise.proofs.ColumnLemmas.{column_unique}
 use Rattle.mr_concise.proofs.VectorLemmas.{column_of-with_column, column_of-at, set-with_column, IsVectorFrom-with_column}
 use Rattle.mr_concise.proofs.UnionLemmas.{column_of-IsColumn}

@@ -1,10 +1,6 @@
 use Rattle.std.proofs.Common.{inl, inr, ◌⊎◌, ◌≡◌, ◌<◌, ◌≤◌, ◌+◌, ◌==◌, ℕ, true, false, nat_lt, cond, refl, ap, sym, ◌∙◌, arith, List, [], ◌∷◌, ◌++◌, length, get_or, take, drop, set, suc, zero}
-use Rattle.std.specs.List.Sorted.{IsNonDecreasingBy}
-use Rattle.std.proofs.lemmas.Bool.{cases_eq, cases_order, lt-ltb, le-ltb, eq-eqb, ne_eqb, ltb-true, ltb-false}
-use Rattle.std.proofs.lemmas.List.{get_or_default}
-use Rattle.mr_concise.specs.Column.{Extent, empty_column, IsColumn}
-use Rattle.mr_concise.specs.declared.vector.AuthorColumn.{AuthorColumn}
-use Rattle.mr_concise.specs.Vector.{column_of, IsVectorFrom, with_column}
+use Rattle.mr_concise.proofs.Names.{AuthorColumn, Extent, IsColumn, IsNonDecreasingBy, IsVectorFrom, cases_eq, cases_order, column_of, empty_column, eq-eqb}
+use Rattle.mr_concise.proofs.Names.{get_or_default, le-ltb, lt-ltb, ltb-false, ltb-true, ne_eqb, with_column}
 
 author-above : (low : ℕ) (xs : List AuthorColumn) (j : ℕ) (d : AuthorColumn) → IsVectorFrom low xs → j < length xs → low ≤ (get_or xs j d).author
 author-above low [] j d v l = absurd (omega arith)

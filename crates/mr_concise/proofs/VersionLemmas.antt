@@ -1,14 +1,7 @@
 use Rattle.std.proofs.Common.{◌≡◌, ◌<◌, ◌≤◌, ◌+◌, ◌==◌, ◌&&◌, ◌||◌, ℕ, Bool, true, false, refl, ap, sym, ◌∙◌, arith, List, [], ◌∷◌, ◌++◌, length, get_or, take, take_all}
-use Rattle.std.proofs.lemmas.List.{take_more}
-use Rattle.std.proofs.lemmas.List.Folds.{list_any-append}
-use Rattle.mr_version.specs.Name.{Name, name_eq}
-use Rattle.mr_forms.specs.Sets.{Versions, IsSame, is_listed, with_version}
-use Rattle.std.specs.List.{list_any}
-use Rattle.mr_concise.specs.AnyOf.{in_any}
+use Rattle.mr_concise.proofs.Names.{AuthorColumn, Extent, HasTooManyHoles, IsSame, IsVectorFrom, Name, Versions, column_of, in_any, is_listed, list_any}
+use Rattle.mr_concise.proofs.Names.{list_any-append, name_eq, take_more, vector_has, with_version}
 use Rattle.mr_concise.proofs.NameLemmas.{name_eq_parts}
-use Rattle.mr_concise.specs.declared.vector.AuthorColumn.{AuthorColumn}
-use Rattle.mr_concise.specs.Column.{Extent}
-use Rattle.mr_concise.specs.Vector.{column_of, vector_has, IsVectorFrom, HasTooManyHoles}
 use Rattle.mr_concise.proofs.ColumnLemmas.{column_unique}
 use Rattle.mr_concise.proofs.UnionLemmas.{column_of-IsColumn}
 use Rattle.mr_concise.proofs.VectorInsertLemmas.{eq-sym}

@@ -1,12 +1,6 @@
 -- The laws of what is spelled behind a kind, and of what is decoded from bytes, over any type of values.
 use Rattle.std.proofs.Common.{◌≡◌, ℕ, ◌≤◌, ◌<◌, ◌%◌, Bool, true, false, cond, eqb, List, [], ◌∷◌, ◌++◌, length, take, Some, Result, Ok, Err, refl, sym, ap, subst, ◌∙◌, arith}
-use Rattle.std.specs.Prelude.{IfOk}
-use Rattle.std.proofs.lemmas.Bool.{eqb-true}
-use Rattle.mr_wire.specs.Reading.{Reader, as_at}
-use Rattle.mr_wire.specs.Spelling.{u8}
-use Rattle.mr_wire.proofs.Laws.{Reads}
-use Rattle.mr_wire.proofs.FrameLaws.{as_takes}
-use Rattle.mr_wire.proofs.PrefixLaws.{same_front}
+use Rattle.mr_entry.proofs.Names.{IfOk, Reader, Reads, as_at, as_takes, eqb-true, same_front, u8}
 
 -- ---- what stands behind a kind
 

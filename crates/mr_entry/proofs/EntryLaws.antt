@@ -1,24 +1,15 @@
 -- What is read of an entry respells the bytes that it took, and what is spelled is read again.
 use Rattle.std.proofs.Common.{◌≡◌, ℕ, ◌-◌, ◌≤◌, ◌<◌, ◌^◌, cond, eqb, List, ◌∷◌, ◌++◌, length, take, drop, Option, Some, Result, Ok, Err, refl, sym, ap, subst, ◌∙◌, arith, append_assoc}
-use Rattle.std.specs.Int.{w8, w16, w32}
+use Rattle.mr_entry.proofs.Names.{Answers, AnswersEvent, Event, IsEntry, Reads, Spells, SpellsEvent, as_again, as_at, as_takes, counted_event, decoded}
+use Rattle.mr_entry.proofs.Names.{drop_at, entry_bytes, entry_read, eqb-true, event_bytes, event_decoded, event_read, filter_text_at, head_at, head_read}
+use Rattle.mr_entry.proofs.Names.{kind_byte, length-append, nexts_at, nexts_read, note_at, note_bytes, note_read, number_at, or_ok, part_bytes, parts_read}
+use Rattle.mr_entry.proofs.Names.{reads_as, reads_author, reads_bytes, reads_counted, reads_like, reads_only, reads_then, reads_u16, reads_u32, reads_u64}
+use Rattle.mr_entry.proofs.Names.{reads_u8, setting_bytes, take-append-drop, take_at, test_ok, then_ok, u16, u32, u64, w16, w32, w8}
 use Rattle.std.specs.Str.{IsUtf8, is_utf8}
-use Rattle.std.proofs.lemmas.Bool.{eqb-true}
-use Rattle.std.proofs.lemmas.List.{length-append, take_at, drop_at, take-append-drop}
 use Rattle.std.proofs.lemmas.Str.{IsUtf8-from_is_utf8, is_utf8-from_IsUtf8}
-use Rattle.mr_wire.specs.Reading.{as_at, number_at}
 use Rattle.mr_wire.specs.Prefixed.{and_then, or_fault}
-use Rattle.mr_wire.specs.Spelling.{u16, u32, u64}
-use Rattle.mr_wire.proofs.Laws.{Reads, reads_like, reads_only, reads_as, reads_then, reads_counted, reads_u8, reads_u16, reads_u32, reads_u64, reads_bytes}
-use Rattle.mr_wire.proofs.PartLaws.{reads_author}
-use Rattle.mr_wire.proofs.FrameLaws.{as_takes, as_again}
-use Rattle.mr_wire.proofs.PrefixLaws.{then_ok, or_ok, test_ok}
-use Rattle.mr_replica.specs.declared.event.Event.{Event}
 use Rattle.mr_entry.specs.Head.{HeadParts, IsHead}
 use Rattle.mr_entry.specs.Note.{NoteParts}
-use Rattle.mr_entry.specs.Spelling.{event_bytes, setting_bytes, note_bytes, part_bytes, kind_byte, entry_bytes}
-use Rattle.mr_entry.specs.Grammar.{IsEntry, Spells, SpellsEvent}
-use Rattle.mr_entry.specs.Parts.{filter_text_at, head_at, nexts_at, note_at}
-use Rattle.mr_entry.specs.Decoding.{Answers, AnswersEvent, counted_event, decoded, entry_read, event_decoded, event_read, head_read, nexts_read, note_read, parts_read}
 use Rattle.mr_entry.specs.declared.entry.Entry.{Entry}
 use Rattle.mr_entry.specs.declared.entry.Entry.TheVariants as entry
 use Rattle.mr_entry.specs.Fault.{fault_of_event}

@@ -1,33 +1,20 @@
 -- What is read of an event respells the bytes that it took, and what is spelled is read again.
 use Rattle.std.proofs.Common.{◌≡◌, ℕ, ◌+◌, ◌<◌, ◌≤◌, ◌^◌, cond, eqb, leb, List, [], ◌∷◌, ◌++◌, length, take, Option, Some, None, Ok, Err, refl, sym, ap, subst, ◌∙◌, append_assoc, arith}
-use Rattle.std.specs.List.{flat_map, AllByRecursion}
-use Rattle.std.specs.Int.{w8}
-use Rattle.std.proofs.lemmas.Bool.{eqb-true}
-use Rattle.std.proofs.lemmas.List.{append-nil, length-append}
-use Rattle.mr_version.specs.Name.{Name}
-use Rattle.mr_mail.specs.Mail.{Mail}
+use Rattle.mr_entry.proofs.Names.{AllByRecursion, Event, IsEvent, IsFrame, IsItem, Mail, Name, Reads, RunFits, SpellsEvent, append-nil, as_again, bind_some}
+use Rattle.mr_entry.proofs.Names.{eqb-true, event_at, event_decoded, event_kind, event_parts, flat_map, frame_again, frame_kind_at, frame_takes, framed_at}
+use Rattle.mr_entry.proofs.Names.{framed_bytes, kind_and_parts, length-append, message_bytes, name_bytes, number_at, reads_ask, reads_counted, reads_like}
+use Rattle.mr_entry.proofs.Names.{reads_name, reads_receipt, reads_run, reads_then, reads_u32, reads_u64, reads_u8, rest_bytes, rest_faults, some_is, test_ok}
+use Rattle.mr_entry.proofs.Names.{u32, value_again, value_takes, versions_at, w8, whole_event, whole_found, ◌>>=◌}
 use Rattle.mr_wire.specs.declared.decoding.TheConstants.{MAX_REST_BYTES}
 use Rattle.mr_wire.specs.declared.kind.Kind.{Kind}
 use Rattle.mr_wire.specs.declared.kind.Kind.TheVariants as frame_kind
 use Rattle.mr_wire.specs.Kinds.{kind_byte as frame_kind_byte, kind_of_byte}
-use Rattle.mr_wire.specs.Reading.{◌>>=◌, number_at}
 use Rattle.mr_wire.specs.FrameParts.{frame_at}
-use Rattle.mr_wire.specs.Spelling.{u32, name_bytes, message_bytes}
 use Rattle.mr_wire.specs.FrameSpelling as frames
-use Rattle.mr_wire.specs.Grammar.{IsItem, IsFrame}
-use Rattle.mr_wire.proofs.Laws.{Reads, RunFits, bind_some, some_is, reads_like, reads_then, reads_counted, reads_run, reads_u8, reads_u32, reads_u64}
-use Rattle.mr_wire.proofs.PartLaws.{reads_name}
 use Rattle.mr_wire.proofs.MessageLemmas.{reads_message}
 use Rattle.mr_wire.proofs.DecodeLaws.{byte_is}
-use Rattle.mr_wire.proofs.FrameLaws.{as_again, reads_ask, reads_receipt, frame_takes, frame_again}
-use Rattle.mr_wire.proofs.PrefixLaws.{test_ok, whole_found, value_takes, value_again}
-use Rattle.mr_replica.specs.declared.event.Event.{Event}
 use Rattle.mr_replica.specs.declared.event.Event.TheVariants as event
 use Rattle.mr_entry.specs.declared.event.fault.EventFault.TheVariants.{BadForm, BadKind, BadBody}
-use Rattle.mr_entry.specs.Spelling.{event_kind, event_parts, framed_bytes, rest_bytes}
-use Rattle.mr_entry.specs.Parts.{versions_at, frame_kind_at, framed_at, event_at}
-use Rattle.mr_entry.specs.Grammar.{IsEvent, SpellsEvent}
-use Rattle.mr_entry.specs.Decoding.{event_decoded, kind_and_parts, rest_faults, whole_event}
 use Rattle.mr_entry.proofs.CodecLaws.{IsCodec, Takes, byte_alone, by_kind, takes_of}
 
 -- ---- versions

@@ -1,22 +1,11 @@
 -- An edit is read from its parts, how many bytes it takes, and what a length leaves.
 use Rattle.std.proofs.Common.{◌≡◌, ◌≤◌, ◌<◌, ◌^◌, ◌+◌, ◌*◌, ℕ, List, ◌++◌, length, drop, Option, Some, None, refl, sym, ap, ◌∙◌, append_assoc, arith}
-use Rattle.std.specs.Prelude.{IfSome, IsSomeAnd, MatchOption}
+use Rattle.mr_entry.proofs.Names.{Event, IfSome, IsSomeAnd, Mail, MatchOption, Name, Reader, Stands, as_at, bytes_at, drop_at, edit_at, event_at, event_parts}
+use Rattle.mr_entry.proofs.Names.{flat_map, length-append, message_at, message_bytes, name_bytes, number_at, reads_bytes, reads_u32, u32, versions_at, w32}
 use Rattle.std.specs.Global.{Vec}
-use Rattle.std.specs.Int.{w32}
-use Rattle.std.specs.List.{flat_map}
-use Rattle.std.proofs.lemmas.List.{length-append, drop_at}
-use Rattle.mr_version.specs.Name.{Name}
-use Rattle.mr_mail.specs.Mail.{Mail}
-use Rattle.mr_wire.specs.Reading.{Reader, as_at, number_at, bytes_at, Stands}
-use Rattle.mr_wire.specs.Parts.{message_at}
-use Rattle.mr_wire.specs.Spelling.{u32, name_bytes, message_bytes}
 use Rattle.mr_wire.proofs.BodyLemmas.{stands_as}
-use Rattle.mr_wire.proofs.Laws.{reads_u32, reads_bytes}
 use Rattle.mr_wire.proofs.LengthLemmas.{length_of_names}
-use Rattle.mr_replica.specs.declared.event.Event.{Event}
 use Rattle.mr_replica.specs.declared.event.Event.TheVariants.{Edit}
-use Rattle.mr_entry.specs.Parts.{versions_at, edit_at, event_at}
-use Rattle.mr_entry.specs.Spelling.{event_parts}
 
 kept_edit : (e : Option Event) (versions : Option (Vec Name)) (message : Option Mail) (bases : List Name) (mail : Mail) → IfSome versions (λ v. v.items ≡ bases) → IfSome message (λ m. m ≡ mail) →
     IfSome e (λ e. IsSomeAnd versions (λ v. IsSomeAnd message (λ m. e ≡ Edit v.items m))) → IfSome e (λ e. e ≡ Edit bases mail)

@@ -1,4 +1,5 @@
 -- lemmas
+pub mod Names
 pub mod CodecLaws
 pub mod EventLemmas
 pub mod EventLaws

@@ -1,9 +1,6 @@
 -- a condition's kind ends at the first colon
 use Rattle.std.proofs.Common.{◌≡◌, ◌≢◌, ℕ, ◌<◌, false, eqb, List, length, get_or, Option, arith}
-use Rattle.std.specs.Option.{MatchOption, IsSomeAnd}
-use Rattle.std.proofs.lemmas.Bool.{eqb-false}
-use Rattle.std.proofs.lemmas.List.Elements.{All-from_recursion}
-use Rattle.mr_filter.specs.inner.Written.{LacksColon}
+use Rattle.mr_filter.proofs.Names.{All-from_recursion, IsSomeAnd, LacksColon, MatchOption, eqb-false}
 
 pub no_colon : (bytes : List ℕ) → LacksColon bytes → (i : ℕ) → i < length bytes → get_or bytes i 0 ≢ 58
 no_colon bytes lacks i below = eqb-false (get_or bytes i 0) 58 (All-from_recursion (λ b. eqb b 58 ≡ false) bytes lacks i 0 below)

@@ -1,19 +1,10 @@
 -- a clause's own conditions make the clause again
 use Rattle.std.proofs.Common.{◌≡◌, ℕ, ◌≤◌, max, ◌⊎◌, eqb, List, [], ◌∷◌, ◌++◌, map, Option, Some, None, refl, ◌∙◌, ap, arith, append-nil}
-use Rattle.std.specs.Prelude.{filter}
-use Rattle.std.specs.Int.Bits.{or_zero_r}
-use Rattle.std.specs.Int.RustNames.{bit_or}
-use Rattle.std.specs.List.{filter_map}
-use Rattle.std.proofs.lemmas.Bool.{eqb-true}
+use Rattle.mr_filter.proofs.Names.{ClauseParts, Combines, Condition, Flag, HasFlag, HasLabel, IsClause, LacksFlag, LacksLabel, Since, all_bits, all_flags}
+use Rattle.mr_filter.proofs.Names.{barred_labels, bit_of, bit_off, bit_on, bit_or, bits_off, bits_on, conditions_of, eqb-true, filter, filter_map}
+use Rattle.mr_filter.proofs.Names.{filter_map-append, has_flag, latest_day, or_zero_r, passes-below, since_condition, wanted_labels}
 use Rattle.std.proofs.lemmas.Bool.Decides.{eqb_tells}
-use Rattle.std.proofs.lemmas.List.Elements.{filter_map-append}
 use Rattle.std.proofs.lemmas.Nat.Bits.{same_from_bits, bit_at_or}
-use Rattle.mr_mail.specs.declared.flags.Flag.{Flag}
-use Rattle.mr_mail.specs.Flag.{all_flags, bit_of, has_flag}
-use Rattle.mr_mail.proofs.FlagLemmas.{passes-below}
-use Rattle.mr_filter.specs.Filter.{ClauseParts, IsClause}
-use Rattle.mr_filter.specs.Condition.{Condition, HasLabel, LacksLabel, HasFlag, LacksFlag, Since, wanted_labels, barred_labels, bit_on, bit_off, all_bits, bits_on, bits_off, latest_day, Combines}
-use Rattle.mr_filter.specs.Text.{conditions_of, since_condition}
 
 -- what each part of a list of conditions adds
 five_parts : {M : Type 0} (h : List Condition → M) (op : M → M → M) → ((xs ys : List Condition) → h (xs ++ ys) ≡ op (h xs) (h ys)) → (a b c d e : List Condition) → h ((((a ++ b) ++ c) ++ d) ++ e) ≡ op (op (op (op (h a) (h b)) (h c)) (h d)) (h e)

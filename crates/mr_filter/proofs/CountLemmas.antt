@@ -1,12 +1,9 @@
 -- among more labels no fewer differ
 use Rattle.std.proofs.Common.{◌≡◌, ℕ, ◌≤◌, Bool, true, false, cond, ◌||◌, List, [], ◌∷◌, refl, sym, ◌∙◌, ap, arith}
-use Rattle.std.specs.List.{list_any, AllByRecursion, IsDistinct}
+use Rattle.mr_filter.proofs.Names.{AllByRecursion, different_labels, has_label, length-le_from_is_member, list_any, list_any_congr}
+use Rattle.std.specs.List.{IsDistinct}
+use Rattle.mr_filter.proofs.Names.{nat_list_eq_equiv, text_eq, true≢false}
 use Rattle.std.specs.Set.{unique_keys}
-use Rattle.std.specs.Cmp.Lexicographic.{nat_list_eq_equiv}
-use Rattle.std.proofs.lemmas.Bool.{true≢false}
-use Rattle.std.proofs.lemmas.Map.Made.{length-le_from_is_member}
-use Rattle.std.proofs.lemmas.Map.Steps.{list_any_congr}
-use Rattle.mr_mail.specs.Label.{text_eq, has_label, different_labels}
 
 -- a label that is named again is no new one
 named_again : (same rest : Bool) → (same ≡ true → rest ≡ true) → rest ≡ (same || rest)

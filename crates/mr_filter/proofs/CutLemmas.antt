@@ -1,10 +1,7 @@
 -- where a text is cut
 use Rattle.std.proofs.Common.{◌≡◌, ℕ, suc, ◌<◌, ◌≤◌, length, take, drop, take-append-drop, subst, arith, Bool, false, eqb, List, [], ◌∷◌, ◌++◌, refl, sym, ◌∙◌, ap}
-use Rattle.std.specs.List.{AllByRecursion, onto_first}
-use Rattle.std.proofs.lemmas.Bool.{eq-eqb, eqb-true}
+use Rattle.mr_filter.proofs.Names.{AllByRecursion, cut_at, eq-eqb, eqb-true, is_separator, join_or, onto_first}
 use Rattle.std.specs.Str.Pattern.{LacksTextAt, HasTextAt}
-use Rattle.mr_filter.specs.Text.{join_or}
-use Rattle.mr_filter.specs.Grammar.{is_separator, cut_at}
 
 -- whether a text begins with the mark between two spaces
 abbrev pub begins : ℕ → List ℕ → Bool

@@ -1,17 +1,8 @@
 -- a draft with one more condition
 use Rattle.std.proofs.Common.{◌≡◌, ℕ, ◌-◌, ◌<◌, List, [], ◌∷◌, ◌++◌, length, max, Result, sym, subst, refl, arith, append-nil}
-use Rattle.std.specs.Int.Bits.{or_zero_r}
-use Rattle.std.specs.Int.RustNames.{bit_or}
-use Rattle.std.specs.List.Sorted.{IsStrictlySortedBy}
-use Rattle.std.specs.Result.{IfErr}
-use Rattle.mr_mail.specs.declared.flags.Flag.{Flag}
-use Rattle.mr_mail.specs.Flag.{bit_of}
-use Rattle.mr_mail.specs.Label.{text_cmp, different_labels, AreLabelsOf}
-use Rattle.mr_filter.specs.Filter.{ClauseParts, IsClause}
-use Rattle.mr_filter.specs.Condition.{HasLabel, LacksLabel, HasFlag, LacksFlag, Since}
-use Rattle.mr_filter.specs.inner.Draft.{IsWithCondition, label_count_with}
+use Rattle.mr_filter.proofs.Names.{AreLabelsOf, ClauseParts, Flag, HasFlag, HasLabel, IfErr, IsClause, IsStrictlySortedBy, IsWithCondition, LacksFlag}
+use Rattle.mr_filter.proofs.Names.{LacksLabel, MAX_CLAUSE_LABELS, Since, bit_of, bit_or, different_labels, label_count_with, or_zero_r, text_cmp}
 use Rattle.mr_filter.proofs.PlaceLemmas.{different_labels-rising}
-use Rattle.mr_filter.specs.declared.clause.TheConstants.{MAX_CLAUSE_LABELS}
 
 -- labels to which none comes
 AreLabelsOf-same : (labels : List (List ℕ)) → IsStrictlySortedBy text_cmp labels → AreLabelsOf (labels ++ []) labels

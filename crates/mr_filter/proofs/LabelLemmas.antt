@@ -1,8 +1,7 @@
 -- no label is a set of labels
 use Rattle.std.proofs.Common.{◌≡◌, [], true, arith}
+use Rattle.mr_filter.proofs.Names.{All-nil, IsLabelSet, is_label}
 use Rattle.std.specs.List.Sorted.{IsStrictlySortedBy}
-use Rattle.std.proofs.lemmas.List.Elements.{All-nil}
-use Rattle.mr_mail.specs.Label.{is_label, IsLabelSet}
 
 pub IsLabelSet-none : IsLabelSet []
 unfolding IsStrictlySortedBy

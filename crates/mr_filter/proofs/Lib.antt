@@ -1,3 +1,4 @@
+pub mod Names
 pub mod MeaningLemmas
 pub mod SelectsLemmas
 mod SearchLemmas

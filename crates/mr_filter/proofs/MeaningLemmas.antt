@@ -1,18 +1,8 @@
 -- a filter that covers another selects all that the other does
 use Rattle.std.proofs.Common.{◌≡◌, ℕ, Bool, true, false, not, ◌⊎◌, ◌&&◌, ◌||◌, List, [], ◌∷◌, sym, ◌∙◌, ap, refl, arith, inl, inr}
-use Rattle.std.specs.Prelude.{nat_le, IsTrue}
-use Rattle.std.specs.List.{list_any, list_all}
-use Rattle.std.specs.Cmp.{first_so, second_so}
-use Rattle.std.specs.Cmp.Derive.{both_true}
-use Rattle.std.specs.Cmp.Lexicographic.{nat_list_eq_equiv}
-use Rattle.std.proofs.lemmas.Map.Steps.{list_any_congr}
-use Rattle.std.proofs.lemmas.Bool.{leb-true, le-leb}
-use Rattle.mr_mail.specs.declared.flags.Flag.{Flag}
-use Rattle.mr_mail.specs.Flag.{has_flag, has_flags, lacks_flags, all_flags}
-use Rattle.mr_mail.specs.Label.{text_eq, has_label}
-use Rattle.mr_mail.specs.Mail.{MailCard}
-use Rattle.mr_filter.specs.Filter.{ClauseParts}
-use Rattle.mr_filter.specs.Meaning.{has_labels, lacks_labels, meets, selects, is_as_wide, covers}
+use Rattle.mr_filter.proofs.Names.{ClauseParts, Flag, IsTrue, MailCard, all_flags, both_true, covers, first_so, has_flag, has_flags, has_label, has_labels}
+use Rattle.mr_filter.proofs.Names.{is_as_wide, lacks_flags, lacks_labels, le-leb, leb-true, list_all, list_any, list_any_congr, meets, nat_le}
+use Rattle.mr_filter.proofs.Names.{nat_list_eq_equiv, second_so, selects, text_eq}
 
 -- which of two holds where one does
 pub or_cases : (a b : Bool) → (a || b) ≡ true → (a ≡ true) ⊎ (b ≡ true)

@@ -1,19 +1,12 @@
 -- a label put at its place among labels that rise
 use Rattle.std.proofs.Common.{◌≡◌, ℕ, ◌≤◌, ◌||◌, Bool, true, false, List, [], ◌∷◌, ◌++◌, map, length, take, drop, take-append-drop, sym, ◌∙◌, ap, subst, arith}
-use Rattle.std.specs.List.{insert, AllWithin, AllPass, AllByRecursion, IsDistinct}
-use Rattle.std.specs.List.Sorted.{IsStrictlySortedBy, IsPartitionPoint, IsPermutation}
-use Rattle.std.specs.declared.cmp.Ordering.TheVariants.{Less, Greater}
-use Rattle.std.specs.Ordering.{ordering_reverse, eq_by_cmp}
-use Rattle.std.specs.Cmp.Lexicographic.{nat_list_cmp_total, nat_list_eq_equiv, texts_ties}
-use Rattle.std.proofs.lemmas.List.{map-append, get_or-take, get_or-drop, length-take-le, length-drop}
-use Rattle.std.proofs.lemmas.List.Elements.{recursion_from_All, All-push}
-use Rattle.std.proofs.lemmas.List.Folds.{list_any-append}
-use Rattle.std.proofs.lemmas.List.Sorted.{IsPermutation-insert, IsPermutation-map, IsPermutation-to_front, IsPermutation-trans, All-permutation, list_any-IsPermutation}
-use Rattle.std.proofs.lemmas.Map.Keys.{IsDistinct-from_sorted, IsDistinct-push}
-use Rattle.std.proofs.lemmas.Map.Made.{distinct_count-from_IsDistinct}
-use Rattle.std.proofs.lemmas.Map.Steps.{list_any_congr}
-use Rattle.mr_mail.specs.Label.{text_cmp, text_eq, has_label, is_label, different_labels, AreLabelsOf}
-use Rattle.mr_mail.proofs.LabelLemmas.{AllByRecursion-map}
+use Rattle.mr_filter.proofs.Names.{All-permutation, All-push, AllByRecursion, AllByRecursion-map, AllPass, AllWithin, AreLabelsOf, Greater, IsDistinct}
+use Rattle.mr_filter.proofs.Names.{IsDistinct-from_sorted, IsDistinct-push, IsPartitionPoint, IsPermutation, IsPermutation-insert, IsPermutation-map}
+use Rattle.mr_filter.proofs.Names.{IsPermutation-to_front, IsPermutation-trans, Less, different_labels, distinct_count-from_IsDistinct}
+use Rattle.std.specs.List.Sorted.{IsStrictlySortedBy}
+use Rattle.mr_filter.proofs.Names.{eq_by_cmp, get_or-drop, get_or-take, has_label, insert, is_label, length-drop, length-take-le, list_any-IsPermutation}
+use Rattle.mr_filter.proofs.Names.{list_any-append, list_any_congr, map-append, nat_list_cmp_total, nat_list_eq_equiv, ordering_reverse, recursion_from_All}
+use Rattle.mr_filter.proofs.Names.{text_cmp, text_eq, texts_ties}
 
 -- what lies before a place, and what lies from it on
 before_place : {X : Type 0} (P : X → Type 0) (xs : List X) (i : ℕ) → i ≤ length xs → AllWithin P xs 0 i → AllByRecursion P (take i xs)

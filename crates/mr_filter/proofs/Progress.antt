@@ -1,12 +1,7 @@
 -- how far a walk over the pieces of a text has come
 use Rattle.std.proofs.Common.{◌≡◌, ℕ, ◌+◌, List, [], ◌∷◌, ◌++◌, length, ◌∙◌, arith, append_assoc, true, false, eqb, Option}
-use Rattle.std.specs.Option.{MatchOption, IfSome, IfNone, is_some}
-use Rattle.std.proofs.lemmas.Bool.{true≢false, false≢true}
-use Rattle.std.specs.Cmp.Lexicographic.{pointwise}
-use Rattle.std.proofs.lemmas.Slice.Eq.{bytes_eq-Decides}
-use Rattle.std.specs.List.{AllByRecursion}
+use Rattle.mr_filter.proofs.Names.{AllByRecursion, IfNone, IfSome, MatchOption, bytes_eq-Decides, cut_at, false≢true, is_some, pointwise, true≢false, width}
 use Rattle.std.proofs.lemmas.List.Sums.{sum_by-append}
-use Rattle.mr_filter.specs.Grammar.{cut_at, width}
 
 -- the pieces before the rest are all fine, and the rest has this many bytes of the text before it
 pub record HasPassed (mark : ℕ) (Fine : List ℕ → Type 0) (text rest : List ℕ) (place : ℕ) : Type 0 where

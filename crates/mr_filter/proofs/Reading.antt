@@ -1,22 +1,15 @@
 -- how far the reading of a text has come
 use Rattle.std.proofs.Common.{◌≡◌, ℕ, length, ◌<◌, ◌≤◌, Bool, true, ◌||◌, ◌++◌, List, [], ◌∷◌, sym, ◌∙◌, ap, subst, inl, inr, codes, arith, append_assoc}
-use Rattle.std.specs.Int.Bits.{or_zero_r}
-use Rattle.std.specs.Int.RustNames.{bit_or}
-use Rattle.std.specs.List.{AllZip, All, AllByRecursion, list_any}
+use Rattle.mr_filter.proofs.Names.{All, All-push, AllByRecursion, AllZip, AreLabelsOf, ClauseParts, Combines, Condition, IsClause, IsClauseInGrammar}
+use Rattle.mr_filter.proofs.Names.{IsCondition, IsFilter, IsUtf8, IsWithCondition, MAX_CLAUSE_LABELS, NamesTooMany, ReadsClause}
 use Rattle.std.specs.List.Sorted.{IsStrictlySortedBy}
-use Rattle.std.specs.Str.{IsUtf8}
-use Rattle.std.proofs.lemmas.Bool.{false≢true}
-use Rattle.std.proofs.lemmas.List.Elements.{filter_map-append, All-push}
-use Rattle.std.proofs.lemmas.List.Folds.{list_any-append}
-use Rattle.mr_mail.specs.Label.{text_eq, different_labels, AreLabelsOf}
-use Rattle.mr_filter.specs.Filter.{ClauseParts, IsClause, IsFilter}
-use Rattle.mr_filter.specs.Condition.{Condition, SpellsCondition, Combines, label_count, wanted_label, barred_label, wanted_labels, barred_labels, bit_on, bit_off}
-use Rattle.mr_filter.specs.inner.Draft.{IsWithCondition, label_count_with, no_condition}
-use Rattle.mr_filter.specs.Grammar.{pieces_of, clauses_of, IsCondition, IsClauseInGrammar, ReadsClause, NamesTooMany}
+use Rattle.mr_filter.proofs.Names.{SpellsCondition, barred_label, barred_labels, bit_off, bit_on, bit_or, clauses_of, different_labels, false≢true}
+use Rattle.mr_filter.proofs.Names.{filter_map-append, label_count, label_count_with, list_any, list_any-append, or_zero_r, pieces_of, text_eq, wanted_label}
+use Rattle.mr_filter.proofs.Names.{wanted_labels}
+use Rattle.mr_filter.specs.inner.Draft.{no_condition}
 use Rattle.mr_filter.proofs.CombineLemmas.{all_bits-append, latest_day-append}
 use Rattle.mr_filter.proofs.CountLemmas.{different_labels-le}
 use Rattle.mr_filter.proofs.ZipLemmas.{AllZip-append, length_zip}
-use Rattle.mr_filter.specs.declared.clause.TheConstants.{MAX_CLAUSE_LABELS}
 
 -- labels so far, with those of one more condition
 AreLabelsOf-more : (given labels added new : List (List ℕ)) → AreLabelsOf given labels → AreLabelsOf (labels ++ added) new → AreLabelsOf (given ++ added) new

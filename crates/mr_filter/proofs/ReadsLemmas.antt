@@ -1,11 +1,7 @@
 -- what a filter's text means is the filter
 use Rattle.std.proofs.Common.{◌≡◌, ℕ, not, Bool, true, false, eqb, List, [], ◌∷◌, ◌++◌, refl, ◌∙◌, ap, inl, inr, codes, arith}
-use Rattle.std.specs.List.{list_all, AllByRecursion, AllZip, All}
-use Rattle.std.proofs.lemmas.List.Elements.{All-head, All-tail}
-use Rattle.mr_filter.specs.Filter.{ClauseParts, IsClause, IsFilter}
-use Rattle.mr_filter.specs.Condition.{Condition, SpellsCondition}
-use Rattle.mr_filter.specs.Text.{conditions_of, join_or, IsClauseText, IsFilterText}
-use Rattle.mr_filter.specs.Grammar.{pieces_of, clauses_of, SpellsConditions, ReadsClause, Reads}
+use Rattle.mr_filter.proofs.Names.{All, All-head, All-tail, AllByRecursion, AllZip, ClauseParts, Condition, IsClause, IsClauseText, IsFilter, IsFilterText}
+use Rattle.mr_filter.proofs.Names.{Reads, ReadsClause, SpellsCondition, SpellsConditions, clauses_of, conditions_of, join_or, list_all, pieces_of}
 use Rattle.mr_filter.proofs.CutLemmas.{Lacks, cut_at-join_or}
 use Rattle.mr_filter.proofs.SpellingLemmas.{is_plain, condition-plain}
 use Rattle.mr_filter.proofs.CombineLemmas.{Combines-conditions_of}

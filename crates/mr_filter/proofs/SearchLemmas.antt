@@ -1,21 +1,9 @@
 -- a binary search by texts that rise finds what is among them
 use Rattle.std.proofs.Common.{◌≡◌, ℕ, ◌+◌, ◌<◌, true, false, List, [], ◌∷◌, map, length, get_or, Result, Ok, Err, sym, ◌∙◌, ap, arith, inl, inr, refl}
-use Rattle.std.specs.List.{HoldsAt}
-use Rattle.std.specs.List.Sorted.{IsStrictlySortedBy, IsSortedBy, IsPartitionPoint, IsBinarySearchResult, IsSearchInRange}
-use Rattle.std.specs.Result.{is_ok}
+use Rattle.mr_filter.proofs.Names.{Equal, Greater, HoldsAt, IsBinarySearchResult, IsPartitionPoint, IsSearchInRange, IsSortedBy, IsStrictlySortedBy, Less}
+use Rattle.mr_filter.proofs.Names.{Less-from_sorted, cases_lt, get_or-map, has_label, is_eq, is_lt, is_ok, length-map, list_any-map, list_any_at}
+use Rattle.mr_filter.proofs.Names.{list_any_none, nat_list_cmp_total, ordering_reverse, searchable_from_sorted, text_cmp, text_eq, texts_ties, tied_back}
 use Rattle.std.specs.declared.cmp.Ordering.{Ordering}
-use Rattle.std.specs.declared.cmp.Ordering.TheVariants.{Less, Equal, Greater}
-use Rattle.std.specs.Ordering.{is_lt, is_eq, ordering_reverse}
-use Rattle.std.specs.Cmp.{tied_back}
-use Rattle.std.specs.Cmp.Lexicographic.{nat_list_cmp_total, texts_ties}
-use Rattle.std.proofs.lemmas.Bool.{cases_lt}
-use Rattle.std.proofs.lemmas.List.{length-map}
-use Rattle.std.proofs.Math.ListN.{get_or-map}
-use Rattle.std.proofs.lemmas.List.Folds.{list_any_at, list_any_none}
-use Rattle.std.proofs.lemmas.List.Sorted.{searchable_from_sorted}
-use Rattle.std.proofs.lemmas.Map.Keys.{Less-from_sorted}
-use Rattle.mr_mail.specs.Label.{text_eq, text_cmp, has_label}
-use Rattle.mr_mail.proofs.LabelLemmas.{list_any-map}
 
 -- what has texts that strictly rise is sorted by them
 IsSortedBy-rising : {X : Type 0} (f : X → List ℕ) (xs : List X) → IsStrictlySortedBy text_cmp (map f xs) → IsSortedBy (λ a b. is_lt (text_cmp (f a) (f b))) xs

@@ -1,21 +1,11 @@
 -- a text's filter selects what some clause of the text is true of
 use Rattle.std.proofs.Common.{◌≡◌, ℕ, ◌≤◌, max, Bool, true, not, ◌&&◌, ◌||◌, List, [], ◌∷◌, ◌∙◌, ap, refl, arith, inl, inr, codes}
-use Rattle.std.specs.Prelude.{nat_le, IsTrue, ◌↔◌}
-use Rattle.std.specs.Int.Bits.{or_zero_r}
-use Rattle.std.specs.Int.RustNames.{bit_or}
-use Rattle.std.specs.List.{list_all, AllZip}
-use Rattle.std.specs.Cmp.Derive.{both_true}
-use Rattle.std.specs.Cmp.Lexicographic.{nat_list_eq_equiv}
-use Rattle.std.proofs.lemmas.Bool.{leb-true, le-leb}
+use Rattle.mr_filter.proofs.Names.{AllZip, AreLabelsOf, ClauseParts, Combines, Condition, HasFlag, HasLabel, HasTrueClause, IsCard, IsTrue, IsTrueClause}
+use Rattle.mr_filter.proofs.Names.{LacksFlag, LacksLabel, MailCard, Reads, ReadsClause, Since, barred_labels, bit_of, bit_or, bit_or-bit_of, bits_off}
+use Rattle.mr_filter.proofs.Names.{bits_on, both_true, clauses_of, has_flags, has_flags-or, has_label, has_labels, is_true_of, lacks_flags, lacks_flags-or}
+use Rattle.mr_filter.proofs.Names.{lacks_labels, latest_day, le-leb, leb-true, list_all, meets, nat_le, nat_list_eq_equiv, or_zero_r, selects, text_eq}
+use Rattle.mr_filter.proofs.Names.{wanted_labels, ◌↔◌}
 use Rattle.std.proofs.lemmas.Nat.{or_comm}
-use Rattle.mr_mail.specs.Flag.{bit_of, has_flags, lacks_flags}
-use Rattle.mr_mail.specs.Label.{text_eq, has_label, AreLabelsOf}
-use Rattle.mr_mail.specs.Mail.{MailCard, IsCard}
-use Rattle.mr_mail.proofs.FlagLemmas.{bit_or-bit_of, has_flags-or, lacks_flags-or}
-use Rattle.mr_filter.specs.Filter.{ClauseParts}
-use Rattle.mr_filter.specs.Condition.{Condition, HasLabel, LacksLabel, HasFlag, LacksFlag, Since, wanted_labels, barred_labels, bits_on, bits_off, latest_day, Combines}
-use Rattle.mr_filter.specs.Meaning.{is_true_of, has_labels, lacks_labels, meets, selects}
-use Rattle.mr_filter.specs.Grammar.{clauses_of, ReadsClause, Reads, IsTrueClause, HasTrueClause}
 use Rattle.mr_filter.proofs.MeaningLemmas.{or_cases, or_first, or_second, has_labels-chain, lacks_labels-chain}
 use Rattle.mr_filter.proofs.UniqueLemmas.{SpellsConditions-unique, none_is_no_clause}
 

@@ -1,14 +1,7 @@
 -- the bytes of what is spelled: no separator stands in a condition, nor ` | ` in a clause
 use Rattle.std.proofs.Common.{◌≡◌, ℕ, ◌<◌, ◌&&◌, not, Bool, true, eqb, List, [], ◌∷◌, ◌++◌, refl, ◌∙◌, ap, arith}
-use Rattle.std.specs.List.{list_all}
-use Rattle.std.specs.Cmp.Derive.{both_true}
-use Rattle.std.proofs.lemmas.Bool.{leb-true, eqb-true, ne_eqb}
-use Rattle.std.proofs.lemmas.List.Folds.{list_all-append}
-use Rattle.mr_mail.specs.declared.flags.Flag.{Flag}
-use Rattle.mr_mail.specs.Flag.{flag_name}
-use Rattle.mr_mail.specs.Label.{is_label_byte}
-use Rattle.mr_mail.specs.Day.{Spells, two_digits}
-use Rattle.mr_filter.specs.Condition.{Condition, kind_of, IsValueOf, SpellsCondition}
+use Rattle.mr_filter.proofs.Names.{Condition, Flag, IsValueOf, Spells, SpellsCondition, both_true, eqb-true, flag_name, is_label_byte, kind_of, leb-true}
+use Rattle.mr_filter.proofs.Names.{list_all, list_all-append, ne_eqb, two_digits}
 use Rattle.mr_filter.proofs.MeaningLemmas.{or_cases}
 
 -- neither mark

@@ -1,19 +1,10 @@
 -- how the texts of conditions, clauses and filters are put together
 use Rattle.std.proofs.Common.{◌≡◌, ℕ, ◌+◌, ◌<◌, List, [], ◌∷◌, ◌++◌, map, take, get_or, length, sym, ◌∙◌, ap, refl, append_assoc, append-nil, string_bytes, true, cond, arith}
-use Rattle.mr_mail.specs.Day.{Spells}
-use Rattle.std.specs.List.{flat_map, AllZip, AllPass}
-use Rattle.std.specs.Prelude.{codes, filter}
+use Rattle.mr_filter.proofs.Names.{All-head, All-tail, AllPass, AllZip, ClauseParts, Flag, HasFlag, HasLabel, IsClause, IsClauseText, LacksFlag, LacksLabel}
+use Rattle.mr_filter.proofs.Names.{Since, Spells, SpellsCondition, all_flags, codes, filter, flag_name, flat_map, has_flag, is_label, join_or, map-append}
+use Rattle.mr_filter.proofs.Names.{ne_eqb, since_condition, take_more, texts_of}
 use Rattle.std.specs.declared.string.String.{String}
 use Rattle.std.specs.declared.alloc.Global.{Global}
-use Rattle.std.proofs.lemmas.List.{take_more, map-append}
-use Rattle.std.proofs.lemmas.Bool.{ne_eqb}
-use Rattle.std.proofs.lemmas.List.Elements.{All-head, All-tail}
-use Rattle.mr_mail.specs.declared.flags.Flag.{Flag}
-use Rattle.mr_mail.specs.Flag.{all_flags, flag_name, has_flag}
-use Rattle.mr_mail.specs.Label.{texts_of, is_label}
-use Rattle.mr_filter.specs.Filter.{ClauseParts, IsClause}
-use Rattle.mr_filter.specs.Condition.{HasLabel, LacksLabel, HasFlag, LacksFlag, Since, SpellsCondition}
-use Rattle.mr_filter.specs.Text.{IsClauseText, since_condition, join_or}
 use Rattle.mr_filter.specs.inner.Text.{SpellsMore}
 use Rattle.mr_filter.proofs.ZipLemmas.{AllZip-append}
 

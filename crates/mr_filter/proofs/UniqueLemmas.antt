@@ -1,26 +1,15 @@
 -- a text means one filter, and one that means a filter has no fault
 use Rattle.std.proofs.Common.{◌≡◌, ℕ, ◌+◌, ◌/◌, ◌%◌, true, false, Result, eqb, List, [], ◌∷◌, ◌++◌, refl, sym, ◌∙◌, ap, subst, inl, inr, arith, codes}
-use Rattle.std.specs.List.{AllZip, AllByRecursion, list_any}
+use Rattle.mr_filter.proofs.Names.{AllByRecursion, AllZip, AreLabelsOf, BadFilter, ClauseParts, Combines, Condition, Flag, HasFlag, HasLabel}
+use Rattle.mr_filter.proofs.Names.{HasTooManyClauses, HasTooManyLabels, IfErr, IfOk, IsClause, IsFilter, IsFirstBad, IsValueOf, LacksColon, LacksFlag}
+use Rattle.mr_filter.proofs.Names.{LacksLabel, NamesTooMany, OutOfMemory, Reads, ReadsClause, Since, Spells, SpellsCondition, SpellsConditions}
+use Rattle.mr_filter.proofs.Names.{TooManyClauses, TooManyLabels, bytes_eq-Decides, clauses_of, date_digits, eq_by_cmp, false≢true, flag_name, is_err}
+use Rattle.mr_filter.proofs.Names.{kind_of, length-AreLabelsOf, list_any, nat_list_cmp_total, pieces_of, text_cmp, text_eq, texts_ties}
 use Rattle.std.specs.BTreeSet.{BTreeSet}
-use Rattle.std.specs.Ordering.{eq_by_cmp}
-use Rattle.std.specs.Cmp.Lexicographic.{nat_list_cmp_total, texts_ties}
-use Rattle.std.specs.Result.{IfOk, IfErr, is_err}
-use Rattle.std.proofs.lemmas.Bool.{false≢true}
 use Rattle.std.proofs.lemmas.Map.Lookups.{btree_set_from_contains, exact_bytes}
-use Rattle.std.proofs.lemmas.Slice.Eq.{bytes_eq-Decides}
-use Rattle.mr_mail.specs.declared.flags.Flag.{Flag}
 use Rattle.mr_mail.specs.declared.flags.Flag.TheVariants.{Seen, Answered, Flagged, Draft, Deleted}
-use Rattle.mr_mail.specs.Flag.{flag_name}
-use Rattle.mr_mail.specs.Label.{text_eq, text_cmp, AreLabelsOf}
-use Rattle.mr_mail.specs.Day.{Spells, date_digits}
-use Rattle.mr_filter.specs.Filter.{ClauseParts, IsClause, IsFilter}
-use Rattle.mr_filter.specs.Condition.{Condition, HasLabel, LacksLabel, HasFlag, LacksFlag, Since, kind_of, IsValueOf, SpellsCondition, Combines}
 use Rattle.mr_filter.specs.declared.fault.FilterFault.{FilterFault}
-use Rattle.mr_filter.specs.declared.fault.FilterFault.TheVariants.{OutOfMemory, BadFilter, TooManyClauses, TooManyLabels}
 use Rattle.mr_filter.specs.Fault.{IsFaultOf}
-use Rattle.mr_filter.specs.Grammar.{pieces_of, clauses_of, SpellsConditions, ReadsClause, Reads, IsFirstBad, HasTooManyClauses, NamesTooMany, HasTooManyLabels}
-use Rattle.mr_filter.specs.inner.Written.{LacksColon}
-use Rattle.mr_mail.proofs.LabelLemmas.{length-AreLabelsOf}
 use Rattle.mr_filter.proofs.Reading.{at_place}
 use Rattle.mr_filter.proofs.ZipLemmas.{length_zip, zip_unique, zip_at, zip_kept}
 

@@ -1,9 +1,8 @@
 -- a filter is written in one way
 use Rattle.std.proofs.Common.{◌≡◌, ℕ, List, ◌∷◌, ◌++◌, sym, ◌∙◌, ap, codes}
 use Rattle.mr_mail.proofs.DayLemmas.{Spells_text}
-use Rattle.mr_filter.specs.Filter.{ClauseParts}
-use Rattle.mr_filter.specs.Condition.{Condition, HasLabel, LacksLabel, HasFlag, LacksFlag, Since, kind_of, IsValueOf, SpellsCondition}
-use Rattle.mr_filter.specs.Text.{conditions_of, join_or, IsClauseText, IsFilterText}
+use Rattle.mr_filter.proofs.Names.{ClauseParts, Condition, HasFlag, HasLabel, IsClauseText, IsFilterText, IsValueOf, LacksFlag, LacksLabel, Since}
+use Rattle.mr_filter.proofs.Names.{SpellsCondition, conditions_of, join_or, kind_of}
 use Rattle.mr_filter.proofs.ZipLemmas.{zip_flipped, zip_unique}
 
 value_written : (c : Condition) (v w : List ℕ) → IsValueOf c v → IsValueOf c w → v ≡ w

@@ -1,22 +1,14 @@
 -- digests among others, and among the names of files
 use Rattle.std.proofs.Common.{◌≡◌, ◌↔◌, ◌⊎◌, ℕ, zero, suc, ◌+◌, ◌<◌, Bool, true, false, if◌then◌else◌, List, [], ◌∷◌, ◌++◌, length, get_or, take, Option, None, Some, Result, Ok, Err, sym, ◌∙◌, ap, ap₂, subst, arith, inl, inr, ⊎_elim, refl}
-use Rattle.std.specs.Prelude.{is_ok, Contains}
-use Rattle.std.specs.List.{filter_map, cons_option}
-use Rattle.std.specs.Option.{option_to_list}
-use Rattle.std.proofs.lemmas.List.{take_more}
+use Rattle.mr_folder.proofs.Names.{Contains, IsDigest, bytes_decides, bytes_eq, cases_lt, cons_option, decode_sized, decode_sized-encode_lower, digest_of}
+use Rattle.mr_folder.proofs.Names.{encode_lower, false≢true, filter_map, if_lower, is_ok, nat_list_cmp_total, option_to_list, slice_cmp, take_more}
+use Rattle.mr_folder.proofs.Names.{texts_ties}
 use Rattle.std.proofs.lemmas.List.Elements.{filter_map-append}
 use Rattle.std.specs.List.Sorted.{IsSorted, IsPartitionPoint, IsBinarySearchResult, IsSearchInRange}
-use Rattle.std.specs.Str.{bytes_eq}
 use Rattle.std.specs.Ordering.{is_eq, nat_cmp}
 use Rattle.std.specs.declared.cmp.Ordering.TheVariants.{Less, Greater}
-use Rattle.std.specs.Cmp.Lexicographic.{bytes_decides, slice_cmp, nat_list_cmp_total, texts_ties}
-use Rattle.std.proofs.lemmas.Bool.{cases_lt, false≢true}
 use Rattle.std.proofs.lemmas.List.Sorted.{searchable_from_sorted}
-use Rattle.hex.specs.Hex.{encode_lower, decode_sized}
 use Rattle.hex.specs.declared.error.FromHexError.{FromHexError}
-use Rattle.hex.proofs.HexLemmas.{decode_sized-encode_lower}
-use Rattle.mr_folder.specs.Names.{IsDigest}
-use Rattle.mr_folder.specs.inner.Names.{if_lower, digest_of}
 
 -- no text compares with itself as less or greater
 apart : (x y : List ℕ) → y ≡ x → is_eq (slice_cmp nat_cmp y x) ≡ true

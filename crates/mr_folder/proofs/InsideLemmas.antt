@@ -1,12 +1,8 @@
 -- the paths of a store stay inside
 use Rattle.std.proofs.Common.{◌≡◌, ℕ, ◌≤◌, true, false, not, List, [], ◌∷◌, length, get_or, lit≤, refl, sym, ap, ◌∙◌, arith}
-use Rattle.std.specs.Prelude.{◌==◌, codes}
-use Rattle.std.specs.List.{list_all, AllPass}
-use Rattle.std.proofs.lemmas.Bool.{and_from, false≢true, eqb-true}
-use Rattle.std.proofs.lemmas.List.Sums.{AllPass-from_list_all}
-use Rattle.hex.specs.Hex.{IsBytes, encode_lower, lower_digits, is_hex_digit}
-use Rattle.hex.proofs.HexLemmas.{decode_of-encode_lower, decode_of-ok, length-encode_with}
-use Rattle.mr_folder.specs.Inside.{is_part_byte, IsPart, IsInside, draft_path, stored_path}
+use Rattle.mr_folder.proofs.Names.{AllPass, AllPass-from_list_all, IsBytes, IsInside, IsPart, and_from, codes, decode_of-encode_lower, decode_of-ok}
+use Rattle.mr_folder.proofs.Names.{draft_path, encode_lower, eqb-true, false≢true, is_hex_digit, is_part_byte, length-encode_with, list_all, lower_digits}
+use Rattle.mr_folder.proofs.Names.{stored_path, ◌==◌}
 
 -- three bytes or more that a part may have
 part : (text : List ℕ) → 3 ≤ length text → AllPass is_part_byte text → IsPart text

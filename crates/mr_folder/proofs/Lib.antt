@@ -1,3 +1,4 @@
+pub mod Names
 pub mod Moments
 pub mod TreeLemmas
 pub mod StoreSteps

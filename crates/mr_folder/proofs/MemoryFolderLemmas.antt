@@ -1,10 +1,6 @@
 -- folders in memory that change once
 use Rattle.std.proofs.Common.{◌≡◌, ℕ, ◌+◌, ◌<◌, List, [], ◌∷◌, ◌++◌, length, get_or, take, map, string_bytes, Vec, sym, ap, ◌∙◌, arith}
-use Rattle.std.specs.declared.string.String.{String}
-use Rattle.std.specs.declared.alloc.Global.{Global}
-use Rattle.std.proofs.Math.ListN.{get_or-map}
-use Rattle.std.proofs.lemmas.List.{get_or_default, map-append, take_more}
-use Rattle.mr_folder.specs.Quiet.{texts}
+use Rattle.mr_folder.proofs.Names.{Global, String, get_or-map, get_or_default, map-append, take_more, texts}
 use Rattle.mr_folder.proofs.QuietLemmas.{length-texts}
 
 -- the names in one of the folders

@@ -1,10 +1,7 @@
 -- steps in memory, and what a crash leaves of them
 use Rattle.std.proofs.Common.{◌≡◌, ◌≢◌, ◌⊎◌, inl, inr, ⊎_elim, ℕ, suc, ◌-◌, ◌≤◌, true, false, if◌then◌else◌, List, ◌∷◌, length, Some, None, Result, Ok, Err, is_ok, OnOk, refl, sym, ap, ◌∙◌, subst, arith}
-use Rattle.std.specs.Str.{bytes_eq}
-use Rattle.std.specs.Cmp.Lexicographic.{bytes_decides}
-use Rattle.std.proofs.lemmas.Bool.{false_from_ne_true}
-use Rattle.mr_folder.specs.Tree.{Tree, OnlyAt, MayMove, MayLink, MayGo, Follows, NoneOr, HasSame, IsUntouched, Passes}
-use Rattle.mr_folder.specs.Memory.{Step, Puts, Moves, Links, Goes, Syncs, SyncsPath, steps_of, tree_of, MayLeave, Left, LeftSince, only_now}
+use Rattle.mr_folder.proofs.Names.{Follows, Goes, HasSame, IsUntouched, Left, LeftSince, Links, MayGo, MayLeave, MayLink, MayMove, Moves, NoneOr, OnlyAt}
+use Rattle.mr_folder.proofs.Names.{Passes, Puts, Step, Syncs, SyncsPath, Tree, bytes_decides, bytes_eq, false_from_ne_true, only_now, steps_of, tree_of}
 use Rattle.mr_folder.specs.declared.memory.MemoryTree.{MemoryTree}
 use Rattle.mr_folder.proofs.ShowLemmas.{link_none}
 

@@ -1,25 +1,13 @@
 -- what is found of files in memory, and their names in the store
 use Rattle.std.proofs.Common.{◌≡◌, ℕ, ◌+◌, ◌<◌, Bool, true, false, if◌then◌else◌, List, [], ◌∷◌, ◌++◌, length, get_or, take, drop, map, Option, Some, None, is_some, Contains, codes, refl, sym, ap, ◌∙◌, subst, arith, ◌⊎◌, inl, inr, ⊎_elim}
-use Rattle.std.specs.Prelude.{nat_eq, string_bytes, Vec, Result, Ok, Err, IfOk}
-use Rattle.std.specs.declared.string.String.{String}
-use Rattle.std.specs.declared.alloc.Global.{Global}
+use Rattle.mr_folder.proofs.Names.{Err, Global, Goes, IfOk, Links, MatchOption, Moves, Ok, Puts, Result, Step, String, Syncs, SyncsPath, TellsDigests, Tree}
+use Rattle.mr_folder.proofs.Names.{Vec, at_drop_more, behind_store, bytes_decides, bytes_eq, encode_lower, false≢true, filter_map, get_or-map, length-map}
+use Rattle.mr_folder.proofs.Names.{nat_eq, option_copied, starts_with, step_of, stored_name, stored_path, string_bytes, take-append-drop, target, tree_of}
 use Rattle.std.specs.Borrow.{Bor}
-use Rattle.std.specs.List.{filter_map, starts_with}
-use Rattle.std.specs.Str.{bytes_eq}
 use Rattle.std.specs.Str.Pattern.{FindsTextPrefix}
 use Rattle.std.proofs.lemmas.Str.Pattern.{starts_text}
-use Rattle.hex.specs.Hex.{encode_lower}
-use Rattle.mr_folder.specs.Inside.{stored_path}
-use Rattle.std.proofs.Math.ListN.{get_or-map}
-use Rattle.mr_folder.specs.Memory.{step_of, Step, Puts, Moves, Links, Goes, Syncs, SyncsPath, after, tree_of}
-use Rattle.mr_folder.specs.Names.{TellsDigests}
-use Rattle.mr_folder.specs.Tree.{Tree}
+use Rattle.mr_folder.specs.Memory.{after}
 use Rattle.mr_folder.specs.declared.memory.Change.{Change}
-use Rattle.mr_folder.specs.inner.MemoryFound.{behind_store, stored_name, target}
-use Rattle.std.specs.Cmp.Lexicographic.{bytes_decides}
-use Rattle.std.specs.Option.{MatchOption, option_copied}
-use Rattle.std.proofs.lemmas.Bool.{false≢true}
-use Rattle.std.proofs.lemmas.List.{take-append-drop, at_drop_more, length-map}
 use Rattle.mr_folder.proofs.HeldLemmas.{from_filter_map, to_filter_map, first_among, more_among}
 
 -- what behind_store gives stands behind the store's folder

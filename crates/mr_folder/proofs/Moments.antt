@@ -1,7 +1,6 @@
 -- what crashes leave over one call after another
 use Rattle.std.proofs.Common.{inl, inr, ⊎_elim, ℕ, refl, subst, sym, arith}
-use Rattle.mr_folder.specs.Tree.{Tree, Stepped, Follows, LeavesOnly, LeavesAfter, IsUntouched, Passes}
-use Rattle.mr_folder.specs.Store.{IsStore, IsSound, StaysSound}
+use Rattle.mr_folder.proofs.Names.{Follows, IsSound, IsStore, IsUntouched, LeavesAfter, LeavesOnly, Passes, StaysSound, Stepped, Tree}
 
 module _ {F : Type 0} {moment : F → ℕ} {left_since : F → ℕ → Tree → Type 0} where
   -- what has P has Q

@@ -1,16 +1,13 @@
 -- what the tests of paths tell
 use Rattle.std.proofs.Common.{◌≡◌, ◌≢◌, ℕ, suc, ◌+◌, ◌<◌, true, false, not, cond, ◌&&◌, List, [], ◌∷◌, ◌++◌, length, get_or, take, All, append_assoc, refl, sym, ap, ◌∙◌, arith}
-use Rattle.std.specs.Prelude.{◌==◌, codes}
-use Rattle.std.specs.List.{list_all, AllByRecursion, onto_first, join_with_byte, position_or_len}
-use Rattle.std.specs.Str.{bytes_eq}
-use Rattle.std.specs.Cmp.Lexicographic.{bytes_decides}
-use Rattle.std.proofs.lemmas.Bool.{and_parts, and_from, not-true, not_from_false, false_from_ne_true, both_ways}
+use Rattle.mr_folder.proofs.Names.{AllByRecursion, AllPass-from_list_all, IsFolder, IsInside, IsPart, and_from, and_parts, both_ways, bytes_decides, bytes_eq}
+use Rattle.mr_folder.proofs.Names.{codes, false_from_ne_true, first_part, is_folder_text, is_part_byte, is_part_text, join_with_byte, list_all}
+use Rattle.mr_folder.proofs.Names.{list_all-from_AllPass, mail_path, not-true, not_from_false, onto_first, own_folder, part_name, parts_of, position_or_len}
+use Rattle.mr_folder.proofs.Names.{◌==◌}
 use Rattle.std.proofs.lemmas.List.Splits.{join_with_byte-slice_split, slice_split_at, slice_split_none}
-use Rattle.std.proofs.lemmas.List.Sums.{AllPass-from_list_all, list_all-from_AllPass}
-use Rattle.mr_folder.specs.Inside.{is_part_byte, IsPart, joined, IsInside, IsFolder, first_part, own_folder, part_name, mail_path}
+use Rattle.mr_folder.specs.Inside.{joined}
 use Rattle.mr_folder.specs.declared.path.Part.{Part}
 use Rattle.mr_folder.specs.declared.path.Part.TheVariants.{Cur, New}
-use Rattle.mr_folder.specs.inner.Parts.{is_part_text, parts_of, is_folder_text}
 
 -- a test that texts differ, and what it tells
 differ : (a b : List ℕ) → not (bytes_eq a b) ≡ true → a ≢ b

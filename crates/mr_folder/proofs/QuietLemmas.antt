@@ -1,12 +1,7 @@
 -- a quiet listing is one moment of the folders
 use Rattle.std.proofs.Common.{◌≡◌, ℕ, ◌<◌, ◌≤◌, List, [], ◌∷◌, ◌++◌, length, refl, sym, ap, ◌∙◌, inl, inr, subst, arith, length-append}
-use Rattle.std.specs.Prelude.{slice_index, map, string_bytes, Vec}
-use Rattle.std.specs.declared.string.String.{String}
-use Rattle.std.specs.declared.alloc.Global.{Global}
-use Rattle.std.proofs.lemmas.Bool.{cases_lt}
-use Rattle.std.proofs.lemmas.List.{ext_get_or, get_or_append_left, get_or_push}
-use Rattle.mr_folder.specs.Quiet.{Past, TellsChanges, IsStill, KeepTimes, Between, IsSnapshot, texts}
-use Rattle.mr_folder.specs.inner.Quiet.{AreTimes, AreNames}
+use Rattle.mr_folder.proofs.Names.{AreNames, AreTimes, Between, Global, IsSnapshot, IsStill, KeepTimes, Past, String, TellsChanges, Vec, cases_lt, ext_get_or}
+use Rattle.mr_folder.proofs.Names.{get_or_append_left, get_or_push, map, slice_index, string_bytes, texts}
 
 -- a folder with the same time on both sides was still between them
 still_between : (past : Past) → TellsChanges past → (folder i j from to : ℕ) → i ≤ from → to ≤ j → past.time i folder ≡ past.time j folder → IsStill past folder from to

@@ -1,11 +1,7 @@
 -- acts on the files of the Maildir keep a store sound
 use Rattle.std.proofs.Common.{◌≡◌, ◌≢◌, ◌↔◌, inl, ℕ, Bool, false, List, Option, None, Some, IfSome, Result, Ok, Err, IfOk, IsTrue, is_some, refl, sym, ap, ◌∙◌, subst}
-use Rattle.std.proofs.lemmas.Bool.{false≢true}
-use Rattle.sha2.specs.Sha256.{sha256}
-use Rattle.mr_folder.specs.Inside.{stored_path, first_part, own_folder}
-use Rattle.mr_folder.specs.Show.{HasRoom}
-use Rattle.mr_folder.specs.Store.{IsStore, IsSound, StaysSound}
-use Rattle.mr_folder.specs.Tree.{Tree, MayMove, MayLink, MayGo, Follows, IsUntouched, Passes}
+use Rattle.mr_folder.proofs.Names.{Follows, HasRoom, IsSound, IsStore, IsUntouched, MayGo, MayLink, MayMove, Passes, StaysSound, Tree, false≢true, first_part}
+use Rattle.mr_folder.proofs.Names.{own_folder, sha256, stored_path}
 use Rattle.mr_folder.proofs.Moments.{widened, joined, sound_over}
 
 -- the store's files are the program's own

@@ -1,12 +1,7 @@
 -- calls that keep a store sound
 use Rattle.std.proofs.Common.{◌≡◌, ◌↔◌, inl, inr, ⊎_elim, ℕ, Bool, true, List, Option, Some, subst, sym, ap, ◌∙◌, refl}
-use Rattle.std.specs.Str.{bytes_eq}
-use Rattle.std.proofs.lemmas.Slice.Eq.{bytes_eq-Decides}
-use Rattle.hex.specs.Hex.{IsBytes}
-use Rattle.sha2.specs.Sha256.{sha256}
-use Rattle.mr_folder.specs.Inside.{draft_path, stored_path}
-use Rattle.mr_folder.specs.Tree.{Tree, OnlyAt, MayMove, MayLink, Follows, LeavesAfter, NoneOr, Passes}
-use Rattle.mr_folder.specs.Store.{IsSound, StaysSound, OnlyStored, SameOr}
+use Rattle.mr_folder.proofs.Names.{Follows, IsBytes, IsSound, LeavesAfter, MayLink, MayMove, NoneOr, OnlyAt, OnlyStored, Passes, SameOr, StaysSound, Tree}
+use Rattle.mr_folder.proofs.Names.{bytes_eq, bytes_eq-Decides, draft_path, sha256, stored_path}
 use Rattle.mr_folder.proofs.Moments.{sound_over, after_still, after_call, after_on, after_wider}
 use Rattle.mr_folder.proofs.TreeLemmas.{draft_apart, IsStore-draft, IsStore-moved, IsStore-linked}
 

@@ -1,14 +1,7 @@
 -- what sweeps leave
 use Rattle.std.proofs.Common.{◌≡◌, ◌≢◌, ◌⊎◌, inl, inr, ⊎_elim, ℕ, ◌+◌, ◌<◌, true, false, List, length, get_or, Contains, Option, None, Some, IfSome, refl, sym, ap, ◌∙◌, subst, arith}
-use Rattle.std.proofs.lemmas.Bool.{cases_lt}
-use Rattle.std.proofs.lemmas.List.{get_or_default}
-use Rattle.std.specs.Prelude.{nat_eq, is_some}
-use Rattle.std.specs.Cmp.Lexicographic.{pointwise, bytes_decides}
-use Rattle.sha2.specs.Sha256.{sha256}
-use Rattle.mr_folder.specs.Inside.{stored_path}
-use Rattle.mr_folder.specs.Store.{IsStore, IsSound, StaysSound}
-use Rattle.mr_folder.specs.Sweep.{IsUnheld, MaySweep, SweptFrom, SweepsOnly}
-use Rattle.mr_folder.specs.Tree.{Tree, MayGo, Follows, IsUntouched, Passes}
+use Rattle.mr_folder.proofs.Names.{Follows, IsSound, IsStore, IsUnheld, IsUntouched, MayGo, MaySweep, Passes, StaysSound, SweepsOnly, SweptFrom, Tree}
+use Rattle.mr_folder.proofs.Names.{bytes_decides, cases_lt, get_or_default, is_some, nat_eq, pointwise, sha256, stored_path}
 use Rattle.mr_folder.proofs.Moments.{widened, joined, started, passed}
 
 pub MaySweep-refl : (held : List (List ℕ)) (t : Tree) → MaySweep held t t

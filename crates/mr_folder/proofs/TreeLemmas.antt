@@ -1,13 +1,7 @@
 -- trees whose files have the digests that they are stored by
 use Rattle.std.proofs.Common.{◌≡◌, ◌≢◌, ◌⊎◌, inl, inr, ⊎_elim, ℕ, true, false, List, drop, Option, None, Some, IfSome, refl, sym, ap, ◌∙◌, subst, arith}
-use Rattle.std.specs.Prelude.{slice_index, nat_eq, is_some}
-use Rattle.std.specs.Cmp.Lexicographic.{pointwise, bytes_decides}
-use Rattle.hex.specs.Hex.{IsBytes, encode_lower, decode_of}
-use Rattle.hex.proofs.HexLemmas.{decode_of-encode_lower, decode_of-same}
-use Rattle.sha2.specs.Sha256.{sha256}
-use Rattle.mr_folder.specs.Inside.{draft_path, stored_path}
-use Rattle.mr_folder.specs.Store.{IsStore, HasMail}
-use Rattle.mr_folder.specs.Tree.{Tree, OnlyAt, MayMove, MayLink}
+use Rattle.mr_folder.proofs.Names.{HasMail, IsBytes, IsStore, MayLink, MayMove, OnlyAt, Tree, bytes_decides, decode_of, decode_of-encode_lower}
+use Rattle.mr_folder.proofs.Names.{decode_of-same, draft_path, encode_lower, is_some, nat_eq, pointwise, sha256, slice_index, stored_path}
 
 -- the draft is at no place of the store
 pub draft_apart : (digest : List ℕ) → draft_path ≢ stored_path digest

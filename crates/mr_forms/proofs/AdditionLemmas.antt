@@ -1,13 +1,7 @@
 use Rattle.std.proofs.Common.{◌≡◌, Bool, true, false, ◌||◌, List, [], ◌∷◌, ◌++◌, refl, ap, arith}
-use Rattle.std.specs.declared.cmp.Ordering.{Ordering}
+use Rattle.mr_forms.proofs.Names.{IsTotalOrder, Ordering, insert_key, is_eq, list_any, match_ordering, taken_back, tied_itself}
 use Rattle.std.specs.BTreeMap.{is_at}
-use Rattle.std.specs.BTreeSet.{insert_key}
-use Rattle.std.specs.Cmp.{IsTotalOrder}
-use Rattle.std.specs.List.{list_any}
-use Rattle.std.specs.Ordering.{is_eq, match_ordering}
 use Rattle.std.specs.Set.{remove_key}
-use Rattle.std.proofs.lemmas.Cmp.{tied_itself}
-use Rattle.mr_forms.specs.inner.Additions.{taken_back}
 
 -- the last key that was added is the first to be taken back
 pub taken_back-push : {K : Type 0} (cmp : K → K → Ordering) (added : List K) (x : K) (keys : List K) → taken_back cmp (added ++ x ∷ []) keys ≡ taken_back cmp added (remove_key (is_at (cmp x)) keys)

@@ -1,16 +1,7 @@
 use Rattle.std.proofs.Common.{◌≡◌, ◌≤◌, ◌+◌, ℕ, Bool, false, ◌||◌, ◌&&◌, ◌==◌, nat_le, List, [], ◌∷◌, ◌++◌, All, AllPairs, get_or, ap, sym, ◌∙◌, arith, inr}
-use Rattle.std.specs.declared.cmp.Ordering.TheVariants.{Less}
-use Rattle.std.proofs.lemmas.Bool.{cases_lt}
-use Rattle.std.proofs.lemmas.Bool.Decides.{nat_tests}
-use Rattle.std.proofs.lemmas.List.Elements.{All-nil, All-push, All-weaker, All-from_recursion}
-use Rattle.std.proofs.lemmas.List.Folds.{list_any-append}
-use Rattle.std.proofs.lemmas.Map.Keys.{sorted_head}
-use Rattle.std.specs.List.Sorted.{IsStrictlySortedBy}
-use Rattle.std.proofs.lemmas.List.Quantifiers.{all_pairs_push}
-use Rattle.mr_version.specs.Name.{Name, name_eq, name_cmp}
+use Rattle.mr_forms.proofs.Names.{All-from_recursion, All-nil, All-push, All-weaker, EndsBelow, EndsUpTo, GainsVersion, IsStrictlySortedBy, Less, Name}
+use Rattle.mr_forms.proofs.Names.{StandsBefore, all_pairs_push, cases_lt, in_run, in_runs, list_any-append, name_cmp, name_eq, nat_tests, sorted_head}
 use Rattle.mr_forms.specs.declared.run.Run.{Run}
-use Rattle.mr_forms.specs.Runs.{in_run, in_runs, StandsBefore}
-use Rattle.mr_forms.specs.inner.Columns.{EndsBelow, EndsUpTo, GainsVersion}
 use Rattle.mr_forms.proofs.ListLemmas.{All-front, All-last, AllPairs-front, AllPairs-last}
 use Rattle.mr_forms.proofs.SetLemmas.{name_eq-parts, parts_from_less}
 

@@ -1,25 +1,9 @@
 use Rattle.std.proofs.Common.{◌≡◌, ◌≢◌, Bool, false, ◌||◌, ◌&&◌, List, [], ◌∷◌, ◌++◌, All, get_or, refl, ap, sym, ◌∙◌, subst, arith}
-use Rattle.std.specs.declared.cmp.Ordering.{Ordering}
-use Rattle.std.specs.declared.cmp.Ordering.TheVariants.{Less}
-use Rattle.std.specs.Ordering.{is_gt, eq_by_cmp, ordering_then}
-use Rattle.std.specs.List.Sorted.{IsStrictlySortedBy}
-use Rattle.std.proofs.lemmas.Cmp.{tied_itself, upto}
-use Rattle.std.proofs.lemmas.List.Elements.{All-nil, All-cons, All-head, All-push, All-weaker, All-from_recursion}
-use Rattle.std.proofs.lemmas.List.Folds.{list_any-append}
-use Rattle.std.proofs.lemmas.List.Quantifiers.{all_pairs_push}
-use Rattle.std.proofs.lemmas.Map.Keys.{sorted_head}
-use Rattle.mr_version.specs.Name.{Name, name_eq, name_cmp}
-use Rattle.mr_version.specs.Order.{names_total, exact_names}
-use Rattle.mr_forms.specs.declared.fragment.ItemSet.{ItemSet}
-use Rattle.mr_forms.specs.declared.fragment.ItemSet.TheVariants.{All as AllItems, Listed}
-use Rattle.mr_forms.specs.declared.fragment.Fragment.{Fragment}
-use Rattle.mr_forms.specs.declared.plain_knowledge.Pair.{Pair}
-use Rattle.mr_forms.specs.Sets.{is_listed}
-use Rattle.mr_forms.specs.Covered.{all_covered, has_item}
-use Rattle.mr_forms.specs.PlainPair.{pair, pair_cmp}
-use Rattle.mr_forms.specs.Plain.{IsAllOrOne, ComesBefore, IsOneByOne, is_all, is_named, had_for_all, had_by_item}
-use Rattle.mr_forms.specs.inner.Plain.{IsOnly}
-use Rattle.mr_forms.specs.inner.PlainSteps.{EndsBy, GainsPair, IsFragmentOf, GainsVersionOf}
+use Rattle.mr_forms.proofs.Names.{All-cons, All-from_recursion, All-head, All-nil, All-push, All-weaker, ComesBefore, EndsBy, Fragment, GainsPair}
+use Rattle.mr_forms.proofs.Names.{GainsVersionOf, IsAllOrOne, IsFragmentOf, IsOneByOne, IsOnly, IsStrictlySortedBy, ItemSet, Less, Listed, Name, Ordering}
+use Rattle.mr_forms.proofs.Names.{Pair, all_covered, all_pairs_push, eq_by_cmp, exact_names, had_by_item, had_for_all, has_item, is_all, is_gt, is_listed}
+use Rattle.mr_forms.proofs.Names.{is_named, list_any-append, name_cmp, name_eq, names_total, ordering_then, pair, pair_cmp, sorted_head, tied_itself, upto}
+use Rattle.mr_forms.specs.declared.fragment.ItemSet.TheVariants.{All as AllItems}
 use Rattle.mr_forms.proofs.SetLemmas.{or_nothing}
 use Rattle.mr_forms.proofs.PairLemmas.{pair_eq-parts}
 use Rattle.mr_forms.proofs.ListLemmas.{All-front, All-last, AllPairs-front, AllPairs-last}

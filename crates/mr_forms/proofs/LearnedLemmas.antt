@@ -1,9 +1,6 @@
 -- What a form learns: what was known stays, and the version is known for its item.
 use Rattle.std.proofs.Common.{◌≡◌, Bool, true, false, ◌||◌, ◌&&◌, arith}
-use Rattle.std.proofs.lemmas.Bool.{or_left, or_right, and_from}
-use Rattle.mr_version.specs.Name.{Name, name_eq}
-use Rattle.mr_forms.specs.Sets.{Versions}
-use Rattle.mr_forms.specs.Known.{Pairs, Form, with_learned, learned, learned_of, learned_with}
+use Rattle.mr_forms.proofs.Names.{Form, Name, Pairs, Versions, and_from, learned, learned_of, learned_with, name_eq, or_left, or_right, with_learned}
 use Rattle.mr_forms.proofs.PairLemmas.{name_eq-itself}
 
 with_learned_keeps : (b : Bool) (old : Pairs) (item version i v : Name) → old i v ≡ true → with_learned b old item version i v ≡ true

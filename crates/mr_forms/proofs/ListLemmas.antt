@@ -1,8 +1,5 @@
 use Rattle.std.proofs.Common.{◌≡◌, ◌+◌, ◌<◌, ◌||◌, ℕ, Bool, List, [], ◌∷◌, ◌++◌, All, AllPairs, length, take, get_or, arith}
-use Rattle.std.specs.List.{list_any}
-use Rattle.std.proofs.lemmas.List.Folds.{list_any_more}
-use Rattle.std.proofs.Math.ListN.{get_or-append, length-append}
-use Rattle.std.proofs.Math.Seq.{get_or-append_seam}
+use Rattle.mr_forms.proofs.Names.{get_or-append, get_or-append_seam, length-append, list_any, list_any_more}
 use Rattle.mr_forms.proofs.SetLemmas.{or_comm}
 
 -- what holds of a list with one element more holds of the list, and of the element

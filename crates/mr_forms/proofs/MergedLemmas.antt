@@ -1,16 +1,9 @@
 -- fragments that are merged one after the other
 use Rattle.std.proofs.Common.{◌≡◌, ◌↔◌, ◌||◌, ◌<◌, ◌+◌, IsErrOf, ℕ, suc, Bool, refl, sym, ap, subst, ◌∙◌, List, [], ◌∷◌, ◌++◌, length, take, get_or, drop, Result, Ok, Err, inl, inr, arith}
-use Rattle.std.specs.List.{All}
-use Rattle.std.proofs.Math.Seq.{drop-cons}
-use Rattle.std.proofs.lemmas.List.{take_more, take-append-drop}
-use Rattle.std.proofs.lemmas.List.Elements.{All-nil, All-cons, All-head, All-tail, All-append}
-use Rattle.mr_version.specs.Name.{Name}
-use Rattle.mr_forms.specs.declared.fragment.Fragment.{Fragment}
+use Rattle.mr_forms.proofs.Names.{All, All-append, All-cons, All-head, All-nil, All-tail, AreSame, Form, Fragment, HasValue, IsOnlyOverItems, Name, Pairs}
+use Rattle.mr_forms.proofs.Names.{Versions, all_covered, covered, drop-cons, take-append-drop, take_more, with_pairs}
 use Rattle.mr_forms.specs.declared.fault.FormFault.{FormFault}
 use Rattle.mr_forms.specs.declared.fault.FormFault.TheVariants as fault
-use Rattle.mr_forms.specs.Sets.{Versions}
-use Rattle.mr_forms.specs.Known.{Pairs, Form, AreSame, HasValue, IsOnlyOverItems, with_pairs}
-use Rattle.mr_forms.specs.Covered.{covered, all_covered}
 use Rattle.mr_forms.specs.Merged.{after_each, AreOverHolesInTurn, AreOverItemsInTurn}
 
 -- pairs that are the same are one

@@ -1,16 +1,7 @@
 use Rattle.std.proofs.Common.{◌≡◌, ◌≢◌, ◌++◌, Bool, true, false, cond, ◌||◌, ◌&&◌, not, List, [], ◌∷◌, refl, ap, sym, ◌∙◌, arith}
-use Rattle.std.proofs.lemmas.Bool.{false≢true, and_parts}
-use Rattle.std.specs.declared.cmp.Ordering.{Ordering}
-use Rattle.std.specs.Ordering.{is_eq, eq_by_cmp, ordering_then}
-use Rattle.std.specs.Cmp.{IsTotalOrder}
-use Rattle.std.proofs.lemmas.Cmp.{tied_itself, then_total, on_total, eq_by_cmp_equiv}
-use Rattle.std.proofs.lemmas.List.Folds.{list_any-append}
-use Rattle.mr_version.specs.Name.{Name, name_eq}
-use Rattle.mr_version.specs.Order.{names_total}
-use Rattle.mr_forms.specs.declared.plain_knowledge.Pair.{Pair}
-use Rattle.mr_forms.specs.Sets.{is_listed}
+use Rattle.mr_forms.proofs.Names.{IsTotalOrder, Name, Ordering, Pair, and_parts, eq_by_cmp, eq_by_cmp_equiv, false≢true, has_pair, is_eq, is_listed}
+use Rattle.mr_forms.proofs.Names.{list_any-append, name_eq, names_total, on_total, ordering_then, pair, pair_cmp, then_total, tied_itself}
 use Rattle.mr_forms.specs.inner.Fresh.{same_name}
-use Rattle.mr_forms.specs.PlainPair.{pair, pair_cmp, has_pair}
 use Rattle.mr_forms.proofs.SetLemmas.{name_eq-symmetric}
 
 is_eq-then : (a b : Ordering) → is_eq (ordering_then a b) ≡ (is_eq a && is_eq b)

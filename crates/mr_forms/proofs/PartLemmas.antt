@@ -1,13 +1,5 @@
 use Rattle.std.proofs.Common.{◌≡◌, ◌⊎◌, suc, List, [], ◌∷◌, Option, All, AllPairs, Contains, map, refl, ap, sym, ◌∙◌, arith, inl, inr}
-use Rattle.std.specs.declared.cmp.Ordering.TheVariants.{Less}
-use Rattle.std.proofs.Math.ListN.{length-map}
-use Rattle.std.proofs.lemmas.Cmp.{tied_itself}
-use Rattle.std.proofs.lemmas.List.{get_or-map}
-use Rattle.std.proofs.lemmas.List.Elements.{All-contains}
-use Rattle.mr_version.specs.Name.{Name, name_cmp}
-use Rattle.mr_version.specs.Order.{names_total}
-use Rattle.mr_forms.specs.Known.{Part}
-use Rattle.mr_forms.specs.Parts.{ComesFirst, ArePartsThat}
+use Rattle.mr_forms.proofs.Names.{All-contains, ArePartsThat, ComesFirst, Less, Name, Part, get_or-map, length-map, name_cmp, names_total, tied_itself}
 
 -- ---- lists by head and tail
 

@@ -1,24 +1,10 @@
 use Rattle.std.proofs.Common.{◌≡◌, ◌≢◌, ◌<◌, ◌⊎◌, ℕ, Bool, true, false, ◌&&◌, List, [], ◌∷◌, length, get_or, Option, Some, None, All, AllPairs, Contains, map, IfSome, refl, ap, sym, ◌∙◌, arith, inl, inr}
-use Rattle.std.specs.declared.cmp.Ordering.TheVariants.{Less}
-use Rattle.std.specs.Ordering.{is_eq}
-use Rattle.std.specs.List.{list_any}
-use Rattle.std.proofs.Math.ListN.{length-map}
-use Rattle.std.proofs.lemmas.Bool.{false≢true, and_parts, or_cases}
-use Rattle.std.proofs.lemmas.List.{get_or-map}
-use Rattle.std.proofs.lemmas.Map.Keys.{sorted_from_all_adjacent}
-use Rattle.mr_version.specs.Order.{names_total}
-use Rattle.std.proofs.lemmas.List.Elements.{All-head, All-tail, All-map, All-weaker, All-contains, All-contains_itself}
-use Rattle.mr_version.specs.Name.{Name, name_cmp}
-use Rattle.mr_forms.specs.declared.fragment.ItemSet.{ItemSet}
-use Rattle.mr_forms.specs.declared.fragment.ItemSet.TheVariants.{All as AllItems, Listed}
-use Rattle.mr_forms.specs.declared.fragment.Fragment.{Fragment}
-use Rattle.mr_forms.specs.Sets.{Versions, is_listed}
-use Rattle.mr_forms.specs.Known.{Part}
-use Rattle.mr_forms.specs.Covered.{listed_items}
-use Rattle.mr_forms.specs.Parts.{part_of, AreListable, ComesFirst, AreInOrder, ArePartsThat}
-use Rattle.mr_forms.specs.PlainPair.{PlainKnown}
-use Rattle.mr_forms.specs.Plain.{IsAllOrOne, ComesBefore, IsOneByOne, AreFragmentsOf, HasPlainVersions, IsPlainPart, beyond_all, is_all, is_named, had_for_all, had_by_item}
-use Rattle.mr_forms.specs.inner.Plain.{IsOnly}
+use Rattle.mr_forms.proofs.Names.{All-contains, All-contains_itself, All-head, All-map, All-tail, All-weaker, AreFragmentsOf, AreInOrder, AreListable}
+use Rattle.mr_forms.proofs.Names.{ArePartsThat, ComesBefore, ComesFirst, Fragment, HasPlainVersions, IsAllOrOne, IsOneByOne, IsOnly, IsPlainPart, ItemSet}
+use Rattle.mr_forms.proofs.Names.{Less, Listed, Name, Part, PlainKnown, Versions, and_parts, beyond_all, false≢true, get_or-map, had_by_item, had_for_all}
+use Rattle.mr_forms.proofs.Names.{is_all, is_eq, is_listed, is_named, length-map, list_any, listed_items, name_cmp, names_total, or_cases, part_of}
+use Rattle.mr_forms.proofs.Names.{sorted_from_all_adjacent}
+use Rattle.mr_forms.specs.declared.fragment.ItemSet.TheVariants.{All as AllItems}
 use Rattle.mr_forms.proofs.SetLemmas.{name_eq-symmetric, or_nothing}
 use Rattle.mr_forms.proofs.PairLemmas.{name_eq-itself}
 use Rattle.mr_forms.proofs.PartLemmas.{AllPairs-head, AllPairs-tail, Contains-cases, Contains-here, Contains-there, Contains-map}

@@ -1,10 +1,5 @@
 use Rattle.std.proofs.Common.{◌≡◌, ◌<◌, ◌⊎◌, Bool, true, false, cond, ◌||◌, ◌&&◌, ◌==◌, arith}
-use Rattle.std.specs.declared.cmp.Ordering.TheVariants.{Less}
-use Rattle.std.proofs.lemmas.Bool.{cases_order}
-use Rattle.std.proofs.lemmas.Bool.Decides.{nat_tests}
-use Rattle.std.proofs.lemmas.Cmp.{eq_by_cmp_equiv}
-use Rattle.mr_version.specs.Name.{Name, name_eq, name_cmp}
-use Rattle.mr_version.specs.Order.{names_total}
+use Rattle.mr_forms.proofs.Names.{Less, Name, cases_order, eq_by_cmp_equiv, name_cmp, name_eq, names_total, nat_tests}
 
 pub or_comm : (a b : Bool) → (a || b) ≡ (b || a)
 or_comm a b = grind arith

@@ -1,10 +1,6 @@
 use Rattle.std.proofs.Common.{◌≡◌, ◌≤◌, ℕ, Bool, true, false, sym, ◌∙◌, arith}
-use Rattle.std.specs.Ordering.{is_gt}
-use Rattle.std.proofs.lemmas.Bool.{or_cases, false≢true}
-use Rattle.std.proofs.lemmas.Bool.Decides.{nat_tests}
-use Rattle.mr_version.specs.Name.{Name, IsVersion, name_cmp, name_eq}
-use Rattle.mr_forms.specs.Sets.{Versions, IsSame, both}
-use Rattle.mr_forms.specs.Runs.{HasVersionsAlone, HasNoAuthorFrom, IsNextAuthor, HasNoRunFrom, IsFirstFrom}
+use Rattle.mr_forms.proofs.Names.{HasNoAuthorFrom, HasNoRunFrom, HasVersionsAlone, IsFirstFrom, IsNextAuthor, IsSame, IsVersion, Name, Versions, both}
+use Rattle.mr_forms.proofs.Names.{false≢true, is_gt, name_cmp, name_eq, nat_tests, or_cases}
 
 -- two sets of versions together
 pub versions_alone-both : (s t u : Versions) → IsSame u (both s t) → HasVersionsAlone s → HasVersionsAlone t → HasVersionsAlone u

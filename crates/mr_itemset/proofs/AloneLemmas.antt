@@ -1,12 +1,9 @@
 -- A version that is learned for its item alone, with a set below it: the version first, and then both.
 use Rattle.std.proofs.Common.{ℕ, ◌≡◌, ◌≢◌, ◌||◌, ◌&&◌, Bool, false, IsErrOf, IsErrAnd, Result, Ok, Err, subst, inl, inr, ◌↔◌, ◌∙◌, arith}
-use Rattle.std.proofs.lemmas.Result.{err_from_is_err_and}
-use Rattle.mr_version.specs.Name.{Name, name_eq}
-use Rattle.mr_forms.specs.Sets.{Versions, both}
-use Rattle.mr_forms.specs.Known.{Pairs, AreSame, HasValue, IsOnlyOverItems, IsOverHolesInTurn, IsOverItemsInTurn, with_below, with_learned, with_learned_below}
-use Rattle.mr_forms.specs.declared.fault.FormFault.{FormFault}
+use Rattle.mr_itemset.proofs.Names.{AreSame, FormFault, HasHoleyItem, HasValue, IsOnlyOverItems, IsOverHolesInTurn, IsOverItemsInTurn, Name, Pairs, Versions}
+use Rattle.mr_itemset.proofs.Names.{err_from_is_err_and, items_form, name_eq, with_below, with_learned, with_learned_below}
+use Rattle.mr_forms.specs.Sets.{both}
 use Rattle.mr_forms.specs.declared.fault.FormFault.TheVariants as fault
-use Rattle.mr_itemset.specs.ItemForm.{items_form, HasHoleyItem}
 use Rattle.mr_itemset.proofs.FoldedLemmas.{same_pairs}
 use Rattle.mr_itemset.proofs.RefusalLemmas.{passed, refuses_otherwise}
 

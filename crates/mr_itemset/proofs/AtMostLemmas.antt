@@ -1,19 +1,11 @@
 use Rattle.std.proofs.Common.{◌≡◌, ◌≤◌, ◌+◌, ◌⊎◌, ◌||◌, ◌&&◌, ℕ, Bool, true, false, nat_le, List, length, refl, ap, sym, ◌∙◌, arith, inl, inr}
-use Rattle.std.proofs.lemmas.Bool.{true≢false, cases_Bool, cases_lt, le-leb}
+use Rattle.mr_itemset.proofs.Names.{AuthorColumn, ColumnsHaveAtMost, Extent, HasAtMost, HasAtMostHoles, HasHoleyItem, HasTooManyHoles, IsColumnOf}
+use Rattle.mr_itemset.proofs.Names.{IsColumnOf-unique, IsKept, IsNormal, IsSame, IsSparse, IsVectorFrom, IsVectorOf, MAX_HOLES, Normal, Versions}
+use Rattle.mr_itemset.proofs.Names.{at_most-from_holes, cases_Bool, cases_lt, column_has, column_has-above, column_of, column_of-IsColumn, column_upto}
+use Rattle.mr_itemset.proofs.Names.{few-of_authors, folded, le-leb, normal_known, of_author, true≢false, vector_has, vector_of}
 use Rattle.mr_version.specs.declared.version.TheConstants.{MAX_COUNTER}
-use Rattle.mr_forms.specs.Sets.{Versions, IsSame, both}
-use Rattle.mr_forms.specs.Runs.{of_author}
-use Rattle.mr_concise.specs.declared.column.TheConstants.{MAX_HOLES}
-use Rattle.mr_concise.specs.declared.vector.AuthorColumn.{AuthorColumn}
-use Rattle.mr_concise.specs.Column.{Extent, column_has}
-use Rattle.mr_concise.specs.Source.{IsColumnOf, HasAtMostHoles, ColumnsHaveAtMost}
-use Rattle.mr_concise.specs.Vector.{column_of, vector_has, IsVectorFrom, IsVectorOf, HasTooManyHoles}
-use Rattle.mr_concise.proofs.LastLemmas.{column_has-above}
-use Rattle.mr_concise.proofs.SweepLemmas.{IsColumnOf-unique, at_most-from_holes, few-of_authors}
-use Rattle.mr_concise.proofs.UnionLemmas.{column_of-IsColumn}
-use Rattle.mr_itemset.specs.Folded.{column_upto, folded, IsKept, IsSparse, HasAtMost}
-use Rattle.mr_itemset.specs.Normal.{Normal, IsNormal, normal_known, vector_of}
-use Rattle.mr_itemset.specs.ItemForm.{with_all, HasHoleyItem}
+use Rattle.mr_forms.specs.Sets.{both}
+use Rattle.mr_itemset.specs.ItemForm.{with_all}
 use Rattle.mr_itemset.proofs.FoldedLemmas.{folded_known}
 use Rattle.mr_itemset.proofs.ItemLemmas.{vector_of-IsVector}
 use Rattle.mr_itemset.proofs.ColumnsLemmas.{upto_low, both_within, upto_means}

@@ -1,19 +1,10 @@
 use Rattle.std.proofs.Common.{◌≡◌, ◌<◌, ◌≤◌, ◌+◌, ◌⊎◌, ◌==◌, ◌||◌, ◌&&◌, ℕ, zero, suc, Bool, true, false, nat_lt, nat_le, if◌then◌else◌, List, [], ◌∷◌, length, length-append, refl, ap, sym, ◌∙◌, arith, inl, inr}
-use Rattle.std.proofs.lemmas.Bool.Decides.{nat_tests}
-use Rattle.std.proofs.lemmas.Bool.{cases_Bool, cases_lt, cases_eq, le-leb, lt-leb, lt-ltb, le-ltb, eq-eqb, ne_eqb}
-use Rattle.mr_forms.proofs.SetLemmas.{or_comm}
-use Rattle.mr_forms.specs.Sets.{IsSame, both}
-use Rattle.mr_concise.specs.declared.column.TheConstants.{MAX_HOLES}
-use Rattle.mr_concise.specs.declared.vector.AuthorColumn.{AuthorColumn}
-use Rattle.mr_concise.specs.Edges.{IsRising}
-use Rattle.mr_concise.specs.Column.{Extent, edges, column_has, empty_column, with_counter, IsColumn}
-use Rattle.mr_concise.specs.Vector.{column_of, vector_has, with_column, IsVectorFrom}
-use Rattle.mr_concise.proofs.ColumnLemmas.{column_unique}
+use Rattle.mr_itemset.proofs.Names.{AuthorColumn, Extent, Fits, IsColumn, IsRising, IsSame, IsVectorFrom, IsVectorFrom-with_column, MAX_HOLES, both_columns}
+use Rattle.mr_itemset.proofs.Names.{cases_Bool, cases_eq, cases_lt, column_has, column_has-empty, column_of, column_of-IsColumn, column_of-with_column}
+use Rattle.mr_itemset.proofs.Names.{column_unique, column_upto, edges, empty_column, eq-eqb, le-leb, le-ltb, lt-leb, lt-ltb, nat_tests, ne_eqb, or_comm}
+use Rattle.mr_itemset.proofs.Names.{united, vector_has, with_column, with_counter}
+use Rattle.mr_forms.specs.Sets.{both}
 use Rattle.mr_concise.proofs.InsertLemmas.{with_counter-means}
-use Rattle.mr_concise.proofs.VectorLemmas.{IsVectorFrom-with_column, column_of-with_column}
-use Rattle.mr_concise.proofs.UnionLemmas.{column_of-IsColumn, column_has-empty}
-use Rattle.mr_itemset.specs.Folded.{column_upto, both_columns, united}
-use Rattle.mr_itemset.specs.inner.Folded.{Fits}
 
 -- ---- the counters of a set, one after the other
 

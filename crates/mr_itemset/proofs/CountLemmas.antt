@@ -1,18 +1,9 @@
 use Rattle.std.proofs.Common.{ℕ, ◌≡◌, ◌≤◌, ◌+◌, ◌⊎◌, ◌||◌, not, Bool, true, false, List, [], ◌∷◌, length, All, Contains, refl, sym, ◌∙◌, arith, inl, inr}
-use Rattle.std.specs.List.{filter}
-use Rattle.std.proofs.lemmas.Bool.{false≢true, cases_Bool}
-use Rattle.std.proofs.lemmas.List.Elements.{All-contains}
-use Rattle.mr_forms.specs.Sets.{Covers, both}
-use Rattle.mr_concise.specs.declared.vector.AuthorColumn.{AuthorColumn}
-use Rattle.mr_concise.specs.Vector.{vector_has, IsVectorFrom}
-use Rattle.mr_concise.specs.Equal.{vector_eq}
-use Rattle.mr_concise.proofs.EqualLemmas.{vector_eq-same}
-use Rattle.mr_itemset.specs.declared.knowledge.Listed.{Listed}
-use Rattle.mr_itemset.specs.Normal.{Normal, IsNormal}
-use Rattle.mr_itemset.specs.inner.Lacking.{Lacks}
-use Rattle.mr_itemset.specs.Folded.{united, gained, folded}
-use Rattle.mr_itemset.specs.inner.Folded.{Fits}
-use Rattle.mr_itemset.specs.inner.Entries.{vectors_of}
+use Rattle.mr_itemset.proofs.Names.{All-contains, AuthorColumn, Covers, Fits, IsNormal, IsVectorFrom, Lacks, Listed, Normal, cases_Bool, false≢true, filter}
+use Rattle.mr_itemset.proofs.Names.{united, vector_eq, vector_eq-same, vector_has, vectors_of}
+use Rattle.mr_itemset.specs.Folded.{folded}
+use Rattle.mr_forms.specs.Sets.{both}
+use Rattle.mr_itemset.specs.Folded.{gained}
 use Rattle.mr_itemset.proofs.ColumnsLemmas.{united-vector, united-has}
 
 pub folded_listed : (k : Normal) (added : List AuthorColumn) → length (gained added (united k.all added) k.listed) ≡ length (folded k added).listed

@@ -1,28 +1,10 @@
 use Rattle.std.proofs.Common.{◌≡◌, ◌<◌, ◌≤◌, ◌+◌, ◌⊎◌, ℕ, suc, Bool, true, false, ◌||◌, ◌&&◌, List, [], ◌∷◌, ◌++◌, length, All, Contains, refl, ap, sym, ◌∙◌, subst, arith, inl, inr}
-use Rattle.std.specs.List.{list_any}
-use Rattle.std.proofs.Math.ListN.{length-map, length-append}
-use Rattle.std.proofs.lemmas.Bool.{false≢true, cases_Bool, or_parts, or_cases}
-use Rattle.std.proofs.lemmas.Cmp.{eq_by_cmp_equiv}
-use Rattle.std.proofs.lemmas.List.Elements.{All-contains, All-head, All-tail, All-weaker, All-contains_itself}
-use Rattle.std.proofs.lemmas.List.Folds.{list_any-append}
-use Rattle.std.proofs.lemmas.Map.Keys.{IsDistinct-cons}
-use Rattle.std.proofs.lemmas.Map.Made.{length-le_from_is_member}
-use Rattle.mr_version.specs.Name.{Name, name_eq}
-use Rattle.mr_version.specs.Order.{names_total}
-use Rattle.mr_forms.specs.Sets.{Versions, IsSame, Covers, both}
-use Rattle.mr_forms.specs.Known.{AreSame, with_below}
-use Rattle.mr_forms.proofs.SetLemmas.{name_eq-symmetric}
-use Rattle.mr_forms.proofs.PairLemmas.{name_eq-itself}
-use Rattle.mr_forms.proofs.PartLemmas.{Contains-cases, Contains-here, Contains-there}
-use Rattle.mr_concise.specs.declared.vector.AuthorColumn.{AuthorColumn}
-use Rattle.mr_concise.specs.Vector.{vector_has, HasTooManyHoles}
-use Rattle.mr_concise.proofs.VersionLemmas.{few-vector}
-use Rattle.mr_itemset.specs.declared.knowledge.Listed.{Listed}
-use Rattle.mr_itemset.specs.Normal.{Normal, HasMore, IsNormal, normal_known, vector_of}
-use Rattle.mr_itemset.specs.inner.Normal.{items_of}
-use Rattle.mr_itemset.specs.ItemForm.{ListsTooMany, HasHoleyItem}
-use Rattle.mr_itemset.specs.inner.Lacking.{Lacks}
-use Rattle.mr_itemset.specs.inner.Each.{with_each, CountsNew}
+use Rattle.mr_itemset.proofs.Names.{All-contains, All-contains_itself, All-head, All-tail, All-weaker, AreSame, AuthorColumn, Contains-cases, Contains-here}
+use Rattle.mr_itemset.proofs.Names.{Contains-there, CountsNew, Covers, HasHoleyItem, HasMore, HasTooManyHoles, IsDistinct-cons, IsNormal, IsSame, Lacks}
+use Rattle.mr_itemset.proofs.Names.{Listed, ListsTooMany, Name, Normal, Versions, cases_Bool, eq_by_cmp_equiv, false≢true, few-vector, items_of}
+use Rattle.mr_itemset.proofs.Names.{length-append, length-le_from_is_member, length-map, list_any, list_any-append, name_eq, name_eq-itself}
+use Rattle.mr_itemset.proofs.Names.{name_eq-symmetric, names_total, normal_known, or_cases, or_parts, vector_has, vector_of, with_below, with_each}
+use Rattle.mr_forms.specs.Sets.{both}
 use Rattle.mr_itemset.proofs.NormalLemmas.{same_name, top, free-above, vector_in-has, vector_in-unlisted}
 use Rattle.mr_itemset.proofs.LimitLemmas.{any_all}
 use Rattle.mr_itemset.proofs.ItemLemmas.{same_tests, vector_of-IsVector, covers_all, item_from_holey}

@@ -1,23 +1,10 @@
 use Rattle.std.proofs.Common.{◌≡◌, ◌⊎◌, true, false, List, [], ◌∷◌, ◌++◌, Some, length, All, refl, ap, ◌∙◌, inl, inr, arith}
-use Rattle.std.specs.Option.{unwrap_or, is_some}
-use Rattle.std.specs.List.{list_any}
+use Rattle.mr_itemset.proofs.Names.{All-head, All-tail, AuthorColumn, BTreeMap, IsBefore, IsOrdered, Listed, Name, Updates, cases_Bool, exact_names, get}
+use Rattle.mr_itemset.proofs.Names.{insert_entry, is_at, is_some, items_of, length-map, list_any, listed_as, listed_of, name_cmp, name_eq, name_eq-symmetric}
+use Rattle.mr_itemset.proofs.Names.{names_total, placed, tied_itself, unwrap_or, vector_in, vectors_of}
 use Rattle.std.specs.Map.{lookup, values_of}
-use Rattle.std.specs.BTreeMap.{BTreeMap, insert_entry, is_at, get, Updates, IsOrdered}
-use Rattle.std.proofs.Math.ListN.{length-map}
-use Rattle.std.proofs.lemmas.Bool.{cases_Bool}
-use Rattle.std.proofs.lemmas.Cmp.{tied_itself}
-use Rattle.std.proofs.lemmas.List.Elements.{All-head, All-tail}
-use Rattle.mr_version.specs.Name.{Name, name_cmp, name_eq}
-use Rattle.mr_version.specs.Order.{names_total, exact_names}
 use Rattle.std.proofs.lemmas.Map.Lookups.{btree_map_from_get}
 use Rattle.mr_itemset.proofs.NormalLemmas.{same_name}
-use Rattle.mr_forms.proofs.SetLemmas.{name_eq-symmetric}
-use Rattle.mr_concise.specs.declared.vector.AuthorColumn.{AuthorColumn}
-use Rattle.mr_itemset.specs.declared.knowledge.Listed.{Listed}
-use Rattle.mr_itemset.specs.Normal.{IsBefore, vector_in}
-use Rattle.mr_itemset.specs.inner.Normal.{items_of}
-use Rattle.mr_itemset.specs.inner.Entries.{listed_as, listed_of, vectors_of}
-use Rattle.mr_itemset.specs.inner.Placed.{placed}
 use Rattle.mr_itemset.proofs.PlaceLemmas.{name_cases, not_lt-more, not_lt-same, same_test, other_test}
 
 -- a map has as many entries as it lists items

@@ -2,17 +2,8 @@ use Rattle.std.proofs.Common.{ℕ, ◌≡◌, Bool, ap, ◌∙◌, List, arith}
 use Rattle.std.specs.Bool.{Decides}
 use Rattle.std.specs.Cmp.Lexicographic.{pointwise, pointwise_decides}
 use Rattle.std.specs.Cmp.Derive.{both_true}
-use Rattle.std.specs.Prelude.{◌↔◌, IsTrue}
-use Rattle.std.proofs.lemmas.Bool.{and_parts}
-use Rattle.std.proofs.lemmas.Bool.Decides.{same_from_decides}
-use Rattle.mr_forms.specs.Known.{AreSame}
-use Rattle.mr_forms.proofs.PairLemmas.{name_eq-itself}
-use Rattle.mr_concise.specs.declared.vector.AuthorColumn.{AuthorColumn}
-use Rattle.mr_concise.specs.Equal.{vector_eq}
-use Rattle.mr_concise.proofs.EqualLemmas.{vectors_Decides}
-use Rattle.mr_itemset.specs.declared.knowledge.Listed.{Listed}
-use Rattle.mr_itemset.specs.Normal.{Normal, normal_known, IsNormal}
-use Rattle.mr_itemset.specs.Equal.{listed_eq, normal_eq}
+use Rattle.mr_itemset.proofs.Names.{AreSame, AuthorColumn, IsNormal, IsTrue, Listed, Normal, and_parts, listed_eq, name_eq-itself, normal_eq, normal_known}
+use Rattle.mr_itemset.proofs.Names.{same_from_decides, vector_eq, vectors_Decides, ◌↔◌}
 use Rattle.mr_itemset.proofs.NormalLemmas.{same_name, normal_unique}
 
 listed_Decides : (a b : Listed) → Decides (listed_eq a b) (a ≡ b)

@@ -1,23 +1,13 @@
 use Rattle.std.proofs.Common.{◌≡◌, ◌⊎◌, ◌||◌, ℕ, Bool, true, false, List, [], ◌∷◌, All, AllPairs, Contains, refl, ap, sym, ◌∙◌, subst, arith, inl, inr}
-use Rattle.std.proofs.lemmas.Bool.{false≢true, cases_Bool}
-use Rattle.std.proofs.lemmas.List.Elements.{All-nil, All-contains, All-contains_itself, All-cons, All-head, All-tail, All-weaker}
+use Rattle.mr_itemset.proofs.Names.{All-cons, All-contains, All-contains_itself, All-head, All-nil, All-tail, All-weaker, AllPairs-head, AllPairs-tail}
+use Rattle.mr_itemset.proofs.Names.{AreSame, AuthorColumn, Contains-cases, Contains-here, Contains-there, Fits, HasGained, HasHoleyItem, HasMore, IsBefore}
+use Rattle.mr_itemset.proofs.Names.{IsGrown, IsKept, IsNormal, IsSame, IsVectorFrom, Listed, Name, Normal, Pairs, Versions, cases_Bool, column_has-empty}
+use Rattle.mr_itemset.proofs.Names.{false≢true, few-vector, normal_known, united, vector_eq, vector_eq-same, vector_has, vector_of}
+use Rattle.mr_itemset.specs.Folded.{folded}
 use Rattle.std.proofs.lemmas.List.Kept.{AllPairs-cons}
-use Rattle.mr_version.specs.Name.{Name}
-use Rattle.mr_forms.specs.Sets.{Versions, IsSame, both}
-use Rattle.mr_forms.specs.Known.{AreSame, Pairs}
-use Rattle.mr_forms.proofs.PartLemmas.{AllPairs-head, AllPairs-tail, Contains-cases, Contains-here, Contains-there}
-use Rattle.mr_concise.specs.declared.vector.AuthorColumn.{AuthorColumn}
-use Rattle.mr_concise.specs.Vector.{vector_has, IsVectorFrom}
-use Rattle.mr_concise.specs.Equal.{vector_eq}
-use Rattle.mr_concise.proofs.EqualLemmas.{vector_eq-same}
-use Rattle.mr_concise.proofs.VersionLemmas.{few-vector}
-use Rattle.mr_concise.proofs.UnionLemmas.{column_has-empty}
-use Rattle.mr_itemset.specs.declared.knowledge.Listed.{Listed}
-use Rattle.mr_itemset.specs.Normal.{Normal, IsBefore, HasMore, IsNormal, vector_of, normal_known}
-use Rattle.mr_itemset.specs.ItemForm.{with_all, HasHoleyItem}
-use Rattle.mr_itemset.specs.inner.Growth.{HasGained, IsGrown}
-use Rattle.mr_itemset.specs.Folded.{united, gained, folded, IsKept}
-use Rattle.mr_itemset.specs.inner.Folded.{Fits}
+use Rattle.mr_forms.specs.Sets.{both}
+use Rattle.mr_itemset.specs.ItemForm.{with_all}
+use Rattle.mr_itemset.specs.Folded.{gained}
 use Rattle.mr_itemset.proofs.NormalLemmas.{vector_in-has, normal_unique}
 use Rattle.mr_itemset.proofs.LimitLemmas.{free_item}
 use Rattle.mr_itemset.proofs.ItemLemmas.{vector_of-IsVector}

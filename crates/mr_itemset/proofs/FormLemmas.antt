@@ -1,30 +1,14 @@
 use Rattle.std.proofs.Common.{◌≡◌, ◌≢◌, ◌<◌, ◌≤◌, ◌+◌, ◌*◌, ◌⊎◌, ℕ, suc, Bool, true, false, ◌||◌, List, [], ◌∷◌, length, get_or, take, drop, Option, Some, None, All, AllPairs, Contains, IfSome, refl, ap, sym, ◌∙◌, subst, arith, inl, inr}
-use Rattle.std.specs.declared.cmp.Ordering.TheVariants.{Less}
-use Rattle.std.specs.List.{list_any, AllByRecursion}
+use Rattle.mr_itemset.proofs.Names.{All-cons, All-contains, All-contains_itself, All-head, All-tail, All-weaker, AllByRecursion, AllPairs-head, AllPairs-tail}
+use Rattle.mr_itemset.proofs.Names.{AreAllWith, AreApart, AreInOrder, AreListable, AreNormalOf, ArePartsThat, AreSame, AuthorColumn, ComesFirst}
+use Rattle.mr_itemset.proofs.Names.{Contains-cases, Contains-here, Contains-there, FillsBefore, HasNormalVersions, HasPiece, IsFullBefore, IsGreater}
+use Rattle.mr_itemset.proofs.Names.{IsNormal, IsNormalPart, IsSame, IsVectorFrom, Less, MAX_ITEMS, Name, Normal, Pairs, Part, Versions}
 use Rattle.std.specs.List.Sorted.{IsStrictlySortedBy}
-use Rattle.std.proofs.lemmas.Bool.{false≢true, cases_Bool, or_cases, or_parts, or_right}
-use Rattle.std.proofs.lemmas.Cmp.{tied_itself}
-use Rattle.std.proofs.lemmas.List.{get_or_default}
-use Rattle.std.proofs.lemmas.List.Elements.{All-cons, All-head, All-tail, All-weaker, All-contains, All-contains_itself}
-use Rattle.mr_version.specs.Name.{Name, name_cmp, name_eq}
-use Rattle.mr_version.specs.Order.{names_total}
-use Rattle.mr_forms.specs.declared.fragment.TheConstants.{MAX_ITEMS}
-use Rattle.mr_forms.specs.Sets.{Versions, IsSame}
-use Rattle.mr_forms.specs.Known.{Pairs, AreSame, Part}
-use Rattle.mr_forms.specs.Parts.{AreListable, ComesFirst, AreInOrder, ArePartsThat}
-use Rattle.mr_forms.proofs.SetLemmas.{name_eq-symmetric}
-use Rattle.mr_forms.proofs.PairLemmas.{name_eq-itself}
-use Rattle.mr_forms.proofs.PartLemmas.{AllPairs-head, AllPairs-tail, Contains-cases, Contains-here, Contains-there, parts_that-unique}
-use Rattle.mr_concise.specs.declared.vector.AuthorColumn.{AuthorColumn}
-use Rattle.mr_concise.specs.Vector.{vector_has, IsVectorFrom}
-use Rattle.mr_concise.specs.Equal.{vector_eq}
-use Rattle.mr_concise.proofs.EqualLemmas.{vectors_Decides, vectors_same}
-use Rattle.mr_itemset.specs.Normal.{Normal, IsNormal, vector_of, normal_known}
-use Rattle.mr_itemset.specs.inner.Normal.{items_of}
-use Rattle.mr_itemset.specs.ItemForm.{HasNormalVersions, IsNormalPart}
+use Rattle.mr_itemset.proofs.Names.{cases_Bool, false≢true, get_or_default, is_of, items_of, list_any, name_cmp, name_eq, name_eq-itself, name_eq-symmetric}
+use Rattle.mr_itemset.proofs.Names.{names_total, normal_known, or_cases, or_parts, parts_that-unique, said, tied_itself, vector_eq, vector_has, vector_of}
+use Rattle.mr_itemset.proofs.Names.{vectors_Decides, vectors_same}
+use Rattle.std.proofs.lemmas.Bool.{or_right}
 use Rattle.mr_itemset.specs.ListingLaws.{known_of}
-use Rattle.mr_itemset.specs.Pieces.{AreAllWith, FillsBefore, HasPiece, IsFullBefore}
-use Rattle.mr_itemset.specs.NormalForm.{is_of, said, IsGreater, AreApart, AreNormalOf}
 use Rattle.mr_itemset.proofs.NormalLemmas.{same_name, vector_in-unlisted, free-above, top}
 use Rattle.mr_itemset.proofs.ItemLemmas.{same_tests, vector_of-IsVector}
 use Rattle.mr_itemset.proofs.PieceLemmas.{items_in, joined, joined_has, has_joined, Turn, joined_rising, piece_of, of_piece}

@@ -1,17 +1,10 @@
 use Rattle.std.proofs.Common.{◌≡◌, ◌≢◌, ◌<◌, ◌≤◌, ◌⊎◌, ℕ, zero, suc, true, false, List, [], ◌∷◌, ◌++◌, length, get_or, set, Option, Some, None, All, AllPairs, refl, ap, sym, ◌∙◌, arith, inl, inr}
-use Rattle.std.specs.List.{slice_get}
-use Rattle.std.specs.BTreeMap.{BTreeMap}
-use Rattle.std.proofs.lemmas.Bool.{false≢true, false_from_ne_true, cases_Bool, cases_eq, cases_lt, and_parts, lt-ltb, ltb-true}
-use Rattle.std.proofs.lemmas.List.{length_push, length-set, get_or_default, get_or-set_same, get_or-set_other, get_or_append_left, get_or_push}
-use Rattle.std.proofs.lemmas.List.Elements.{All-nil, All-cons, All-head, All-tail}
+use Rattle.mr_itemset.proofs.Names.{Alike, All-cons, All-head, All-nil, All-tail, AllPairs-head, AllPairs-tail, AreNoted, AuthorColumn, BTreeMap, FillInTurn}
+use Rattle.mr_itemset.proofs.Names.{IsNoted, Listed, MAX_ITEMS, TakesAt, alone, and_parts, cases_Bool, cases_eq, cases_lt, false_from_ne_true, false≢true}
+use Rattle.mr_itemset.proofs.Names.{get_or-set_other, get_or-set_same, get_or_append_left, get_or_default, get_or_push, grouped, length-set, length_push}
+use Rattle.mr_itemset.proofs.Names.{lt-ltb, ltb-true, mark_of, slice_get, takes, vectors_Decides}
 use Rattle.std.proofs.lemmas.List.Kept.{AllPairs-cons}
-use Rattle.mr_forms.specs.declared.fragment.TheConstants.{MAX_ITEMS}
-use Rattle.mr_forms.proofs.PartLemmas.{AllPairs-head, AllPairs-tail}
-use Rattle.mr_concise.specs.declared.vector.AuthorColumn.{AuthorColumn}
-use Rattle.mr_concise.proofs.EqualLemmas.{vectors_Decides}
-use Rattle.mr_itemset.specs.declared.knowledge.Listed.{Listed}
-use Rattle.mr_itemset.specs.Groups.{Alike, alone, with_item, takes, grouped}
-use Rattle.mr_itemset.specs.inner.Groups.{mark_of, FillInTurn, IsNoted, AreNoted, TakesAt}
+use Rattle.mr_itemset.specs.Groups.{with_item}
 
 -- ---- what holds of each group, and of each two, as an item is put in
 

@@ -1,29 +1,11 @@
 use Rattle.std.proofs.Common.{◌≡◌, ◌≢◌, ◌<◌, ◌≤◌, ◌⊎◌, ℕ, Bool, true, false, ◌||◌, ◌&&◌, List, [], ◌∷◌, ◌++◌, length, get_or, Some, None, IfSome, All, AllPairs, map, refl, ap, sym, ◌∙◌, subst, arith, inl, inr}
-use Rattle.std.specs.declared.cmp.Ordering.TheVariants.{Less}
-use Rattle.std.specs.Ordering.{is_eq}
-use Rattle.std.specs.List.{list_any, AllByRecursion}
+use Rattle.mr_itemset.proofs.Names.{Alike, All-cons, All-head, All-map, All-nil, All-push, All-tail, All-weaker, AllByRecursion, AllPairs-head, AllPairs-tail}
+use Rattle.mr_itemset.proofs.Names.{AreApart, AreInOrder, AreListable, AreNormalOf, AuthorColumn, ComesFirst, FillsBefore, HasMore, HasOneNormalForm}
+use Rattle.mr_itemset.proofs.Names.{IsBefore, IsFullBefore, IsGreater, IsNormal, IsSame, Less, Listed, MAX_ITEMS, Name, Normal, Part}
 use Rattle.std.specs.List.Sorted.{IsStrictlySortedBy}
-use Rattle.std.proofs.lemmas.Bool.{false≢true, cases_Bool, cases_lt, or_cases}
-use Rattle.std.proofs.lemmas.List.{length_push}
-use Rattle.std.proofs.lemmas.List.Elements.{All-nil, All-cons, All-head, All-tail, All-weaker, All-push, All-map}
-use Rattle.std.proofs.lemmas.List.Folds.{list_any-append}
+use Rattle.mr_itemset.proofs.Names.{all_grouped, cases_Bool, cases_lt, false≢true, grouped, is_eq, is_of, length_push, list_any, list_any-append, name_cmp}
+use Rattle.mr_itemset.proofs.Names.{name_eq, name_eq-symmetric, names_total, or_cases, said, takes, vector_has, vector_in, vectors_same}
 use Rattle.std.proofs.lemmas.List.Kept.{AllPairs-cons}
-use Rattle.mr_version.specs.Name.{Name, name_cmp, name_eq}
-use Rattle.mr_version.specs.Order.{names_total}
-use Rattle.mr_forms.specs.Sets.{IsSame}
-use Rattle.mr_forms.specs.declared.fragment.TheConstants.{MAX_ITEMS}
-use Rattle.mr_forms.specs.Known.{Part}
-use Rattle.mr_forms.specs.Parts.{AreListable, ComesFirst, AreInOrder}
-use Rattle.mr_forms.proofs.SetLemmas.{name_eq-symmetric}
-use Rattle.mr_forms.proofs.PartLemmas.{AllPairs-head, AllPairs-tail}
-use Rattle.mr_concise.specs.declared.vector.AuthorColumn.{AuthorColumn}
-use Rattle.mr_concise.specs.Vector.{vector_has}
-use Rattle.mr_concise.proofs.EqualLemmas.{vectors_same}
-use Rattle.mr_itemset.specs.declared.knowledge.Listed.{Listed}
-use Rattle.mr_itemset.specs.Normal.{Normal, IsBefore, HasMore, IsNormal, vector_in}
-use Rattle.mr_itemset.specs.NormalForm.{is_of, said, IsGreater, AreApart, AreNormalOf, HasOneNormalForm}
-use Rattle.mr_itemset.specs.Groups.{Alike, takes, grouped, all_grouped}
-use Rattle.mr_itemset.specs.Pieces.{FillsBefore, IsFullBefore}
 use Rattle.mr_itemset.proofs.NormalLemmas.{same_name}
 use Rattle.mr_itemset.proofs.FormLemmas.{normal_form_unique}
 use Rattle.mr_itemset.proofs.GroupLemmas.{all_grouped_by, pairs_grouped_by, taken, untaken}

@@ -1,12 +1,7 @@
 -- What is told of items, grouped one after the other.
 use Rattle.std.proofs.Common.{◌≡◌, List, [], ◌∷◌, ◌++◌, ℕ, refl, inl, inr}
-use Rattle.mr_concise.specs.declared.vector.AuthorColumn.{AuthorColumn}
-use Rattle.mr_forms.specs.declared.fragment.TheConstants.{MAX_ITEMS}
-use Rattle.mr_itemset.specs.declared.knowledge.Listed.{Listed}
+use Rattle.mr_itemset.proofs.Names.{Alike, AreToldItems, AuthorColumn, GroupsTold, IsGrouping, Listed, MAX_ITEMS, all_grouped, grouped}
 use Rattle.mr_itemset.specs.declared.groups.Grouping.{Grouping}
-use Rattle.mr_itemset.specs.Groups.{Alike, grouped, all_grouped}
-use Rattle.mr_itemset.specs.inner.Grouping.{GroupsTold, IsGrouping}
-use Rattle.mr_itemset.specs.inner.Told.{AreToldItems}
 use Rattle.mr_itemset.proofs.ToldItems.{told_more}
 
 -- the groups with one item more behind these

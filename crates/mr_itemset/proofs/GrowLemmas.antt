@@ -1,18 +1,11 @@
 use Rattle.std.proofs.Common.{◌≡◌, ◌<◌, ◌⊎◌, ℕ, zero, suc, Bool, true, false, ◌||◌, List, [], ◌∷◌, ◌++◌, length, get_or, All, Contains, refl, ap, sym, ◌∙◌, arith, inl, inr}
-use Rattle.std.proofs.Math.ListN.{length-append}
-use Rattle.std.proofs.lemmas.Bool.{false≢true, or_right}
-use Rattle.std.proofs.lemmas.List.Elements.{All-push, All-contains, Contains-push, Contains-push_cases, Contains-append_left}
+use Rattle.mr_itemset.proofs.Names.{All-contains, All-push, AreSame, AuthorColumn, Contains-append_left, Contains-push, Contains-push_cases, Covers}
+use Rattle.mr_itemset.proofs.Names.{GainsListed, HasGained, HasMore, IsBefore, IsGrown, IsNormal, IsSame, IsVectorFrom, Lacks, Listed, Name, Normal, Versions}
+use Rattle.mr_itemset.proofs.Names.{false≢true, length-append, normal_known, vector_has, vector_in}
+use Rattle.std.proofs.lemmas.Bool.{or_right}
 use Rattle.std.proofs.lemmas.List.Quantifiers.{all_pairs_push}
-use Rattle.mr_version.specs.Name.{Name}
-use Rattle.mr_forms.specs.Sets.{Versions, IsSame, Covers, both}
-use Rattle.mr_forms.specs.Known.{AreSame}
-use Rattle.mr_concise.specs.declared.vector.AuthorColumn.{AuthorColumn}
-use Rattle.mr_concise.specs.Vector.{vector_has, IsVectorFrom}
-use Rattle.mr_itemset.specs.declared.knowledge.Listed.{Listed}
-use Rattle.mr_itemset.specs.Normal.{Normal, IsBefore, HasMore, IsNormal, vector_in, normal_known}
+use Rattle.mr_forms.specs.Sets.{both}
 use Rattle.mr_itemset.specs.ItemForm.{with_all}
-use Rattle.mr_itemset.specs.inner.Growth.{HasGained, GainsListed, IsGrown}
-use Rattle.mr_itemset.specs.inner.Lacking.{Lacks}
 use Rattle.mr_itemset.proofs.NormalLemmas.{vector_in-has, vector_in-cases}
 
 -- an item is put at the end with its grown vector

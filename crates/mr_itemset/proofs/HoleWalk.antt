@@ -1,18 +1,8 @@
 -- Holes by where they begin, a counter in one of them, and an author's column among others.
 use Rattle.std.proofs.Common.{◌≡◌, ◌<◌, ◌≤◌, ◌+◌, ◌-◌, ◌&&◌, ◌||◌, ℕ, zero, suc, Bool, true, false, not, nat_le, List, [], ◌∷◌, ◌++◌, length, get_or, drop, Contains, refl, arith}
-use Rattle.std.specs.Prelude.{min, max}
-use Rattle.std.specs.List.{list_any}
-use Rattle.std.specs.List.Sorted.{IsNonDecreasingBy}
-use Rattle.std.proofs.lemmas.Bool.{false≢true, cases_lt, cases_eq, le-leb, lt-leb, eq-eqb, ne_eqb}
-use Rattle.mr_concise.specs.Edges.{IsRising}
-use Rattle.mr_concise.specs.inner.Edges.{is_on}
-use Rattle.mr_concise.proofs.EdgeLemmas.{is_on-turn, is_on-stay}
-use Rattle.mr_concise.proofs.ColumnLemmas.{column_has-edges}
-use Rattle.mr_concise.specs.declared.column.Hole.{Hole}
-use Rattle.mr_concise.specs.declared.vector.AuthorColumn.{AuthorColumn}
-use Rattle.mr_concise.specs.Column.{Extent, hole_has, hole_edges, column_has, empty_column, IsColumn}
-use Rattle.mr_concise.specs.Next.{IsNextOut}
-use Rattle.mr_concise.specs.Vector.{column_of}
+use Rattle.mr_itemset.proofs.Names.{AuthorColumn, Extent, Hole, IsColumn, IsNextOut, IsNonDecreasingBy, IsRising, cases_eq, cases_lt, column_has}
+use Rattle.mr_itemset.proofs.Names.{column_has-edges, column_of, empty_column, eq-eqb, false≢true, hole_edges, hole_has, is_on, is_on-stay, is_on-turn}
+use Rattle.mr_itemset.proofs.Names.{le-leb, list_any, lt-leb, max, min, ne_eqb}
 
 first-above : (low : ℕ) (holes : List Hole) (end j : ℕ) (d : Hole) → IsRising low (hole_edges holes ++ end ∷ []) → j < length holes → low < (get_or holes j d).first
 first-above low [] end j d r l = absurd (omega arith)

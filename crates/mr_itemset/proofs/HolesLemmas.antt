@@ -1,12 +1,7 @@
 -- A column as it has to be has as many holes as its counters say.
 use Rattle.std.proofs.Common.{◌≡◌, ◌<◌, ◌≤◌, ◌+◌, ◌&&◌, ◌⊎◌, Bool, false, not, if◌then◌else◌, ℕ, zero, suc, nat_le, nat_lt, List, [], ◌∷◌, ◌++◌, length, refl, ap, sym, ◌∙◌, arith, inl, inr}
-use Rattle.std.specs.List.{list_any}
-use Rattle.std.proofs.lemmas.Bool.{cases_lt, le-leb, lt-leb, lt-ltb, le-ltb}
-use Rattle.mr_concise.specs.declared.column.Hole.{Hole}
-use Rattle.mr_concise.specs.Column.{Extent, hole_has, column_has, hole_edges, edges}
-use Rattle.mr_concise.specs.Edges.{IsRising}
-use Rattle.mr_concise.proofs.EdgeLemmas.{IsRising-end}
-use Rattle.mr_itemset.specs.Sparing.{holes_among}
+use Rattle.mr_itemset.proofs.Names.{Extent, Hole, IsRising, IsRising-end, cases_lt, column_has, edges, hole_edges, hole_has, holes_among, le-leb, le-ltb}
+use Rattle.mr_itemset.proofs.Names.{list_any, lt-leb, lt-ltb}
 
 abbrev in_holes : List Hole → ℕ → Bool
 in_holes holes c = list_any (λ hole. hole_has hole c) holes

@@ -1,26 +1,9 @@
 use Rattle.std.proofs.Common.{ℕ, ◌≡◌, ◌≤◌, ◌⊎◌, suc, Bool, true, false, cond, ◌||◌, ◌&&◌, List, [], ◌∷◌, length, All, AllPairs, Contains, refl, ap, sym, ◌∙◌, subst, arith, inl, inr}
-use Rattle.std.specs.declared.cmp.Ordering.{Ordering}
-use Rattle.std.specs.declared.cmp.Ordering.TheVariants.{Less}
-use Rattle.std.specs.Ordering.{is_eq, is_lt}
-use Rattle.std.specs.List.{list_any}
-use Rattle.std.proofs.lemmas.Bool.{false≢true, cases_Bool, or_cases, or_parts}
-use Rattle.std.proofs.lemmas.List.Elements.{All-contains, All-head, All-tail, All-weaker}
-use Rattle.mr_version.specs.Name.{Name, name_cmp, name_eq}
-use Rattle.mr_version.specs.Order.{names_total}
-use Rattle.mr_forms.specs.Sets.{Versions, IsSame, both}
-use Rattle.mr_forms.specs.Known.{AreSame, with_below}
-use Rattle.mr_forms.proofs.SetLemmas.{name_eq-symmetric}
-use Rattle.mr_forms.proofs.PairLemmas.{name_eq-itself}
-use Rattle.mr_forms.proofs.PartLemmas.{AllPairs-head, AllPairs-tail}
-use Rattle.mr_concise.specs.declared.vector.AuthorColumn.{AuthorColumn}
-use Rattle.mr_concise.specs.Vector.{vector_has, IsVectorFrom, HasTooManyHoles}
-use Rattle.mr_concise.proofs.VersionLemmas.{few-vector}
-use Rattle.mr_itemset.specs.declared.knowledge.Listed.{Listed}
-use Rattle.mr_itemset.specs.Normal.{Normal, IsBefore, HasMore, IsNormal, vector_in, vector_of, normal_known}
-use Rattle.mr_itemset.specs.inner.Normal.{items_of}
-use Rattle.mr_itemset.specs.ItemForm.{HasHoleyItem}
-use Rattle.mr_itemset.specs.inner.Lacking.{Lacks}
-use Rattle.mr_itemset.specs.inner.Placed.{placed, HasRoom}
+use Rattle.mr_itemset.proofs.Names.{All-contains, All-head, All-tail, All-weaker, AllPairs-head, AllPairs-tail, AreSame, AuthorColumn, HasHoleyItem, HasMore}
+use Rattle.mr_itemset.proofs.Names.{HasRoom, HasTooManyHoles, IsBefore, IsNormal, IsSame, IsVectorFrom, Lacks, Less, Listed, Name, Normal, Ordering, Versions}
+use Rattle.mr_itemset.proofs.Names.{cases_Bool, false≢true, few-vector, is_eq, is_lt, items_of, list_any, name_cmp, name_eq, name_eq-itself}
+use Rattle.mr_itemset.proofs.Names.{name_eq-symmetric, names_total, normal_known, or_cases, or_parts, placed, vector_has, vector_in, vector_of, with_below}
+use Rattle.mr_forms.specs.Sets.{both}
 use Rattle.mr_itemset.proofs.NormalLemmas.{same_name, vector_in-cases, vector_in-unlisted}
 use Rattle.mr_itemset.proofs.PlaceLemmas.{name_cases, All-placed, rising-placed, length-placed, vector_in-placed}
 

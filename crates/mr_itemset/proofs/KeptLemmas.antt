@@ -1,18 +1,9 @@
 use Rattle.std.proofs.Common.{◌≡◌, ◌<◌, ◌≤◌, ◌+◌, ◌⊎◌, ◌||◌, ◌&&◌, ℕ, zero, suc, Bool, true, false, List, [], ◌∷◌, length, get_or, All, Contains, refl, ap, sym, ◌∙◌, subst, arith, inl, inr}
-use Rattle.std.proofs.lemmas.List.Elements.{All-contains, All-head, All-tail, All-weaker}
-use Rattle.std.proofs.lemmas.Bool.{cases_Bool, cases_eq, eq-eqb, ne_eqb}
-use Rattle.mr_version.specs.Name.{Name, name_eq}
-use Rattle.mr_forms.specs.Sets.{Versions, IsSame, Covers, both}
-use Rattle.mr_forms.specs.Known.{AreSame, with_below}
-use Rattle.mr_concise.specs.declared.column.TheConstants.{MAX_HOLES}
-use Rattle.mr_concise.specs.declared.vector.AuthorColumn.{AuthorColumn}
-use Rattle.mr_concise.specs.Column.{IsColumn}
-use Rattle.mr_concise.specs.Vector.{column_of, vector_has, IsVectorFrom, IsVectorOf}
-use Rattle.mr_concise.proofs.EqualLemmas.{vectors_same}
-use Rattle.mr_itemset.specs.Normal.{Normal, IsNormal, vector_in, vector_of, normal_known}
-use Rattle.mr_itemset.specs.declared.knowledge.Listed.{Listed}
+use Rattle.mr_itemset.proofs.Names.{All-contains, All-head, All-tail, All-weaker, AreSame, AuthorColumn, Covers, HasAtMost, IsColumn, IsKept, IsNormal}
+use Rattle.mr_itemset.proofs.Names.{IsSame, IsSparse, IsVectorFrom, IsVectorOf, Listed, MAX_HOLES, Name, Normal, Versions, cases_Bool, cases_eq, column_of}
+use Rattle.mr_itemset.proofs.Names.{eq-eqb, name_eq, ne_eqb, normal_known, vector_has, vector_in, vector_of, vectors_same, with_below}
+use Rattle.mr_forms.specs.Sets.{both}
 use Rattle.mr_itemset.specs.ItemForm.{with_all}
-use Rattle.mr_itemset.specs.Folded.{IsKept, IsSparse, HasAtMost}
 use Rattle.mr_itemset.proofs.NormalLemmas.{same_name, vector_in-cases}
 use Rattle.mr_itemset.proofs.ItemLemmas.{vector_of-IsVector}
 

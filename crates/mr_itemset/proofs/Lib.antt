@@ -1,3 +1,4 @@
+pub mod Names
 pub mod NormalLemmas
 pub mod ColumnsLemmas
 pub mod EqualLemmas

@@ -1,19 +1,9 @@
 use Rattle.std.proofs.Common.{◌≡◌, ◌⊎◌, ◌||◌, ◌+◌, ℕ, suc, true, false, All, Contains, List, [], ◌∷◌, length, ap, sym, ◌∙◌, subst, arith, inl, inr}
-use Rattle.std.specs.List.{list_any}
-use Rattle.std.proofs.Math.ListN.{length-map}
-use Rattle.std.proofs.lemmas.Bool.{false≢true, cases_Bool, or_cases}
-use Rattle.std.proofs.lemmas.Cmp.{eq_by_cmp_equiv}
-use Rattle.std.proofs.lemmas.Map.Made.{length-le_from_is_member}
-use Rattle.std.proofs.lemmas.List.Elements.{All-contains, All-head, All-tail}
-use Rattle.mr_version.specs.Name.{Name, name_eq}
-use Rattle.mr_version.specs.Order.{names_total}
-use Rattle.mr_forms.specs.Sets.{Versions, IsSame, both}
-use Rattle.mr_concise.specs.declared.vector.AuthorColumn.{AuthorColumn}
-use Rattle.mr_concise.specs.Vector.{vector_has, HasTooManyHoles}
-use Rattle.mr_itemset.specs.declared.knowledge.Listed.{Listed}
-use Rattle.mr_itemset.specs.Normal.{Normal, vector_in, normal_known, IsNormal}
-use Rattle.mr_itemset.specs.inner.Normal.{items_of}
-use Rattle.mr_itemset.specs.ItemForm.{with_all, HasHoleyItem, ListsTooMany}
+use Rattle.mr_itemset.proofs.Names.{All-contains, All-head, All-tail, AuthorColumn, HasHoleyItem, HasTooManyHoles, IsNormal, IsSame, Listed, ListsTooMany}
+use Rattle.mr_itemset.proofs.Names.{Name, Normal, Versions, cases_Bool, eq_by_cmp_equiv, false≢true, items_of, length-le_from_is_member, length-map, list_any}
+use Rattle.mr_itemset.proofs.Names.{name_eq, names_total, normal_known, or_cases, vector_has, vector_in}
+use Rattle.mr_forms.specs.Sets.{both}
+use Rattle.mr_itemset.specs.ItemForm.{with_all}
 use Rattle.mr_itemset.proofs.NormalLemmas.{same_name, top, free-above, vector_in-unlisted, vector_in-has, vector_in-cases}
 
 -- some item is not listed

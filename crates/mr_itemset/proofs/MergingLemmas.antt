@@ -1,25 +1,14 @@
 -- what items and all items have already, and counts where nothing waits
 use Rattle.std.proofs.Common.{◌≡◌, ◌<◌, ◌≤◌, ◌↔◌, ◌⊎◌, OnOk, IsErrOf, IsErrAnd, Result, Ok, Err, get_or, ◌||◌, ℕ, suc, Bool, true, false, List, [], ◌∷◌, length, take, drop, All, refl, sym, subst, arith, inl, inr}
-use Rattle.std.proofs.lemmas.Bool.{cases_Bool}
-use Rattle.std.proofs.lemmas.List.Elements.{All-head, All-tail}
-use Rattle.std.proofs.lemmas.Result.{err_from_is_err_and}
-use Rattle.mr_version.specs.Name.{Name}
-use Rattle.mr_forms.specs.Sets.{Versions, Covers}
-use Rattle.mr_forms.specs.declared.fragment.Fragment.{Fragment}
-use Rattle.mr_forms.specs.declared.fault.FormFault.{FormFault}
+use Rattle.mr_itemset.proofs.Names.{All-head, All-tail, AreOverHolesInTurn, AreOverItemsInTurn, AreSame, AuthorColumn, Covers, FirstHasValue, FormFault}
+use Rattle.mr_itemset.proofs.Names.{Fragment, HasHoleyItem, HasMore, HasValue, IsNormal, IsOnlyOverItems, IsVectorFrom, Listed, Name, Normal, Pairs, Versions}
+use Rattle.mr_itemset.proofs.Names.{after_all, after_each, cases_Bool, err_from_is_err_and, holes_there, items_form, items_there, normal_known, united}
+use Rattle.mr_itemset.proofs.Names.{vector_eq, vector_eq-same, vector_has, with_below, with_pairs}
 use Rattle.mr_forms.specs.declared.fault.FormFault.TheVariants as fault
-use Rattle.mr_forms.specs.Known.{Pairs, AreSame, HasValue, IsOnlyOverItems, with_below, with_pairs}
 use Rattle.mr_forms.specs.Covered.{covered}
-use Rattle.mr_forms.specs.Merged.{after_each, FirstHasValue, AreOverHolesInTurn, AreOverItemsInTurn}
-use Rattle.mr_forms.proofs.MergedLemmas.{after_all, holes_there, items_there, split_at}
-use Rattle.mr_concise.specs.declared.vector.AuthorColumn.{AuthorColumn}
-use Rattle.mr_concise.specs.Vector.{vector_has, IsVectorFrom}
-use Rattle.mr_concise.specs.Equal.{vector_eq}
-use Rattle.mr_concise.proofs.EqualLemmas.{vector_eq-same}
-use Rattle.mr_itemset.specs.declared.knowledge.Listed.{Listed}
-use Rattle.mr_itemset.specs.Normal.{Normal, HasMore, IsNormal, normal_known}
-use Rattle.mr_itemset.specs.ItemForm.{items_form, HasHoleyItem, with_all}
-use Rattle.mr_itemset.specs.Folded.{united, gained}
+use Rattle.mr_forms.proofs.MergedLemmas.{split_at}
+use Rattle.mr_itemset.specs.ItemForm.{with_all}
+use Rattle.mr_itemset.specs.Folded.{gained}
 use Rattle.mr_itemset.proofs.NormalLemmas.{same_name}
 use Rattle.mr_itemset.proofs.ItemLemmas.{covers_all}
 

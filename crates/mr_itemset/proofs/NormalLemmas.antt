@@ -1,24 +1,8 @@
 use Rattle.std.proofs.Common.{◌≡◌, ◌<◌, ◌+◌, ◌⊎◌, ℕ, suc, Bool, true, false, List, [], ◌∷◌, AllPairs, Contains, refl, ap, sym, ◌∙◌, arith, inl, inr}
-use Rattle.std.specs.declared.cmp.Ordering.{Ordering}
-use Rattle.std.specs.declared.cmp.Ordering.TheVariants.{Less, Equal}
-use Rattle.std.specs.Ordering.{is_eq}
-use Rattle.std.specs.List.{list_any}
-use Rattle.std.proofs.lemmas.Bool.{false≢true, cases_Bool, or_parts}
-use Rattle.std.proofs.lemmas.Cmp.{tied_itself}
-use Rattle.std.proofs.lemmas.List.Elements.{All-contains}
-use Rattle.mr_version.specs.Name.{Name, name_cmp, name_eq}
-use Rattle.mr_version.specs.Order.{names_total, exact_names}
-use Rattle.mr_forms.specs.Sets.{IsSame}
-use Rattle.mr_forms.specs.Known.{AreSame}
-use Rattle.mr_forms.proofs.SetLemmas.{name_eq-symmetric}
-use Rattle.mr_forms.proofs.PairLemmas.{name_eq-itself}
-use Rattle.mr_forms.proofs.PartLemmas.{AllPairs-head, AllPairs-tail, Contains-cases, Contains-here, Contains-there}
-use Rattle.mr_concise.specs.declared.vector.AuthorColumn.{AuthorColumn}
-use Rattle.mr_concise.specs.Vector.{vector_has}
-use Rattle.mr_concise.proofs.EqualLemmas.{vectors_same}
-use Rattle.mr_itemset.specs.declared.knowledge.Listed.{Listed}
-use Rattle.mr_itemset.specs.Normal.{Normal, IsBefore, vector_in, normal_known, HasMore, IsNormal}
-use Rattle.mr_itemset.specs.inner.Normal.{items_of}
+use Rattle.mr_itemset.proofs.Names.{All-contains, AllPairs-head, AllPairs-tail, AreSame, AuthorColumn, Contains-cases, Contains-here, Contains-there, Equal}
+use Rattle.mr_itemset.proofs.Names.{HasMore, IsBefore, IsNormal, IsSame, Less, Listed, Name, Normal, Ordering, cases_Bool, exact_names, false≢true, is_eq}
+use Rattle.mr_itemset.proofs.Names.{items_of, list_any, name_cmp, name_eq, name_eq-itself, name_eq-symmetric, names_total, normal_known, or_parts}
+use Rattle.mr_itemset.proofs.Names.{tied_itself, vector_has, vector_in, vectors_same}
 
 -- ---- names
 

@@ -1,11 +1,7 @@
 -- A set that has one version alone.
 use Rattle.std.proofs.Common.{◌≡◌, ◌+◌, ℕ, false, arith}
-use Rattle.std.proofs.lemmas.Bool.{cases_lt, cases_eq, eq-eqb, ne_eqb}
-use Rattle.mr_version.specs.Name.{Name, name_eq}
-use Rattle.mr_forms.specs.Sets.{Versions, IsSame}
-use Rattle.mr_forms.specs.Runs.{of_author, HasNoAuthorFrom, IsNextAuthor}
-use Rattle.mr_forms.proofs.SetLemmas.{name_eq-parts}
-use Rattle.mr_concise.specs.Next.{IsNextIn, HasNoneFrom}
+use Rattle.mr_itemset.proofs.Names.{HasNoAuthorFrom, HasNoneFrom, IsNextAuthor, IsNextIn, IsSame, Name, Versions, cases_eq, cases_lt, eq-eqb, name_eq}
+use Rattle.mr_itemset.proofs.Names.{name_eq-parts, ne_eqb, of_author}
 
 -- where nothing of its author comes before or behind, and nothing of another author
 pub only_same : (set : Versions) (a k : ℕ) → of_author set a 0 ≡ false → IsNextAuthor set 0 a → IsNextIn (of_author set a) 1 k → HasNoneFrom (of_author set a) (k + 1) → HasNoAuthorFrom set (a + 1) → (v : Name) → v.author ≡ a → v.counter ≡ k → IsSame set (name_eq v)

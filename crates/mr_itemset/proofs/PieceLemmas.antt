@@ -1,18 +1,10 @@
 -- Parts that are cut out of one list of items, and the list that they make.
 use Rattle.std.proofs.Common.{◌≡◌, ◌≢◌, ◌≤◌, ◌+◌, ◌*◌, ◌⊎◌, ℕ, zero, suc, Bool, true, false, if◌then◌else◌, List, [], ◌∷◌, ◌++◌, length, take, drop, Option, Some, None, All, AllPairs, Contains, refl, ap, sym, ◌∙◌, arith, inl, inr}
-use Rattle.std.specs.declared.cmp.Ordering.TheVariants.{Less}
-use Rattle.std.specs.List.{list_any, AllByRecursion}
+use Rattle.mr_itemset.proofs.Names.{All-contains, All-head, All-tail, AllByRecursion, AllPairs-head, AllPairs-tail, Contains-cases, Contains-here}
+use Rattle.mr_itemset.proofs.Names.{Contains-there, FillsBefore, IsPieceOf, Less, Name, Part, append-nil, cases_Bool, drop-drop, drop_all}
 use Rattle.std.specs.List.Sorted.{IsStrictlySortedBy}
-use Rattle.std.proofs.Math.Nat.{suc-mul}
-use Rattle.std.proofs.lemmas.Bool.{false≢true, cases_Bool, or_cases, or_left, or_right}
-use Rattle.std.proofs.lemmas.List.{append-nil, drop-drop, drop_all, drop_at, take_all, take_at}
-use Rattle.std.proofs.lemmas.List.Elements.{All-head, All-tail, All-contains}
-use Rattle.std.proofs.lemmas.List.Folds.{list_any-append}
-use Rattle.mr_version.specs.Name.{Name, name_cmp, name_eq}
-use Rattle.mr_forms.specs.Known.{Part}
-use Rattle.mr_forms.proofs.PairLemmas.{name_eq-itself}
-use Rattle.mr_forms.proofs.PartLemmas.{AllPairs-head, AllPairs-tail, Contains-cases, Contains-here, Contains-there}
-use Rattle.mr_itemset.specs.Pieces.{FillsBefore, IsPieceOf}
+use Rattle.mr_itemset.proofs.Names.{drop_at, false≢true, list_any, list_any-append, name_cmp, name_eq, name_eq-itself, or_cases, suc-mul, take_all, take_at}
+use Rattle.std.proofs.lemmas.Bool.{or_left, or_right}
 
 -- ---- rising items behind one another
 

@@ -1,18 +1,7 @@
 use Rattle.std.proofs.Common.{◌≡◌, ◌≤◌, ◌+◌, ◌⊎◌, suc, Bool, true, false, cond, List, [], ◌∷◌, length, All, AllPairs, refl, ap, sym, ◌∙◌, arith, inl, inr}
-use Rattle.std.specs.declared.cmp.Ordering.{Ordering}
-use Rattle.std.specs.declared.cmp.Ordering.TheVariants.{Less}
-use Rattle.std.specs.Ordering.{is_eq, is_lt, ordering_reverse}
-use Rattle.std.proofs.lemmas.Bool.{cases_Bool, false≢true}
-use Rattle.std.proofs.lemmas.List.Elements.{All-nil, All-cons, All-head, All-tail, All-weaker}
-use Rattle.mr_version.specs.Name.{Name, name_cmp, name_eq}
-use Rattle.mr_version.specs.Order.{names_total, exact_names}
-use Rattle.mr_forms.proofs.SetLemmas.{name_eq-symmetric}
-use Rattle.mr_forms.proofs.PairLemmas.{name_eq-itself}
-use Rattle.mr_forms.proofs.PartLemmas.{AllPairs-head, AllPairs-tail}
-use Rattle.mr_concise.specs.declared.vector.AuthorColumn.{AuthorColumn}
-use Rattle.mr_itemset.specs.declared.knowledge.Listed.{Listed}
-use Rattle.mr_itemset.specs.Normal.{IsBefore, vector_in}
-use Rattle.mr_itemset.specs.inner.Placed.{placed}
+use Rattle.mr_itemset.proofs.Names.{All-cons, All-head, All-nil, All-tail, All-weaker, AllPairs-head, AllPairs-tail, AuthorColumn, IsBefore, Less, Listed}
+use Rattle.mr_itemset.proofs.Names.{Name, Ordering, cases_Bool, exact_names, false≢true, is_eq, is_lt, name_cmp, name_eq, name_eq-itself, name_eq-symmetric}
+use Rattle.mr_itemset.proofs.Names.{names_total, ordering_reverse, placed, vector_in}
 use Rattle.mr_itemset.proofs.NormalLemmas.{same_name}
 
 -- ---- two names

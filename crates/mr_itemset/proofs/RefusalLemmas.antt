@@ -1,9 +1,6 @@
 -- What a call refuses, from what it found before.
 use Rattle.std.proofs.Common.{ℕ, ◌≡◌, ◌↔◌, Ok, Err, inl, inr}
-use Rattle.std.specs.Prelude.{IsErrOf}
-use Rattle.mr_forms.specs.declared.fault.FormFault.{FormFault}
-use Rattle.mr_forms.specs.Known.{Pairs, HasValue, IsOnlyOverItems, IsOverHolesInTurn, IsOverItemsInTurn}
-use Rattle.mr_itemset.specs.ItemForm.{items_form, HasHoleyItem}
+use Rattle.mr_itemset.proofs.Names.{FormFault, HasHoleyItem, HasValue, IsErrOf, IsOnlyOverItems, IsOverHolesInTurn, IsOverItemsInTurn, Pairs, items_form}
 
 module _ {T P : Type 0} where
   -- what passes a test is nothing to refuse

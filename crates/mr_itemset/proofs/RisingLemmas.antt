@@ -1,13 +1,7 @@
 use Rattle.std.proofs.Common.{◌≡◌, ◌<◌, ◌+◌, ℕ, zero, suc, false, List, [], ◌∷◌, length, take, get_or, All, AllPairs, refl, ap, ◌∙◌, add-one, arith}
-use Rattle.std.proofs.lemmas.List.Elements.{All-head, All-tail, All-cons, All-nil, All-weaker, All-get_or}
+use Rattle.mr_itemset.proofs.Names.{All-cons, All-get_or, All-head, All-nil, All-tail, All-weaker, AllPairs-head, AllPairs-tail, Less, Name, is_eq, list_any}
+use Rattle.mr_itemset.proofs.Names.{name_cmp, name_eq, name_eq-symmetric, names_total}
 use Rattle.std.proofs.lemmas.List.Kept.{AllPairs-cons}
-use Rattle.std.specs.declared.cmp.Ordering.TheVariants.{Less}
-use Rattle.std.specs.Ordering.{is_eq}
-use Rattle.std.specs.List.{list_any}
-use Rattle.mr_version.specs.Name.{Name, name_cmp, name_eq}
-use Rattle.mr_version.specs.Order.{names_total}
-use Rattle.mr_forms.proofs.SetLemmas.{name_eq-symmetric}
-use Rattle.mr_forms.proofs.PartLemmas.{AllPairs-head, AllPairs-tail}
 
 -- ---- rising items
 

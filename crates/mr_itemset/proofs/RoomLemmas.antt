@@ -1,16 +1,6 @@
 use Rattle.std.proofs.Common.{◌≡◌, ◌<◌, ◌⊎◌, ℕ, Bool, true, false, not, ◌||◌, List, [], ◌∷◌, length, get_or, AllPairs, Contains, refl, ap, sym, ◌∙◌, arith, inl, inr}
-use Rattle.std.specs.Ordering.{is_eq}
-use Rattle.std.specs.List.{list_any, AllByRecursion, IsDistinct}
-use Rattle.std.proofs.Math.ListN.{length-map}
-use Rattle.std.proofs.lemmas.Bool.{false≢true, cases_Bool, or_parts}
-use Rattle.std.proofs.lemmas.List.{get_or-map}
-use Rattle.std.proofs.lemmas.Map.Keys.{IsDistinct-from_apart}
-use Rattle.mr_version.specs.Name.{Name, name_eq}
-use Rattle.mr_forms.proofs.PairLemmas.{name_eq-itself}
-use Rattle.mr_forms.proofs.PartLemmas.{Contains-cases}
-use Rattle.mr_itemset.specs.declared.knowledge.Listed.{Listed}
-use Rattle.mr_itemset.specs.Normal.{IsBefore}
-use Rattle.mr_itemset.specs.inner.Normal.{items_of}
+use Rattle.mr_itemset.proofs.Names.{AllByRecursion, Contains-cases, IsBefore, IsDistinct, IsDistinct-from_apart, Listed, Name, cases_Bool, false≢true}
+use Rattle.mr_itemset.proofs.Names.{get_or-map, is_eq, items_of, length-map, list_any, name_eq, name_eq-itself, or_parts}
 use Rattle.mr_itemset.proofs.NormalLemmas.{same_name}
 
 pub none_by_recursion : (i : Name) (js : List Name) → list_any (name_eq i) js ≡ false → AllByRecursion (λ j. name_eq i j ≡ false) js

@@ -1,12 +1,8 @@
 -- Worked rows: the texts of knowledge that was computed by hand.
 use Rattle.std.proofs.Common.{◌≡◌, ℕ, refl, List, [], ◌∷◌, arith}
 use Rattle.std.proofs.lemmas.Fmt.{decimal_digit}
-use Rattle.std.specs.Prelude.{codes}
-use Rattle.mr_concise.specs.declared.column.Hole.{Hole}
-use Rattle.mr_concise.specs.declared.vector.AuthorColumn.{AuthorColumn}
-use Rattle.mr_itemset.specs.declared.knowledge.Listed.{Listed}
-use Rattle.mr_itemset.specs.Shown.{normal_text}
-use Rattle.mr_itemset.specs.Folded.{united, folded}
+use Rattle.mr_itemset.proofs.Names.{AuthorColumn, Hole, Listed, codes, normal_text, united}
+use Rattle.mr_itemset.specs.Folded.{folded}
 
 -- an author's versions up to this one, but for the holes
 abbrev column : ℕ → ℕ → List Hole → AuthorColumn

@@ -1,21 +1,9 @@
 use Rattle.std.proofs.Common.{◌≡◌, ◌≢◌, ℕ, List, [], ◌∷◌, None, All, IfSome, map, refl, ap, sym, ◌∙◌, arith}
-use Rattle.std.specs.List.{flat_map, join_by}
-use Rattle.std.proofs.lemmas.Simd.{map-map}
-use Rattle.std.proofs.lemmas.List.Elements.{All-nil, All-cons, All-head, All-tail}
-use Rattle.std.proofs.lemmas.List.Folds.{flat_map-map}
-use Rattle.mr_version.specs.Name.{Name}
+use Rattle.mr_itemset.proofs.Names.{All-cons, All-head, All-nil, All-tail, AreListable, AreNormalOf, ArePartsThat, AreSame, ConciseFragment, HasItems}
+use Rattle.mr_itemset.proofs.Names.{IsNormal, IsNormalPart, MAX_ITEMS, Name, Normal, Part, Shown, all_covered, all_grouped, flat_map, flat_map-map}
+use Rattle.mr_itemset.proofs.Names.{fragment_text, fragments_in, has_item, is_of, items_text, join_by, knowledge_text, listed_items, map-map, normal_known}
+use Rattle.mr_itemset.proofs.Names.{normal_text, part_of, said, shown, shown_group, shown_items, shown_text, vector_has}
 use Rattle.mr_forms.specs.declared.fragment.ItemSet.{ItemSet}
-use Rattle.mr_forms.specs.declared.fragment.TheConstants.{MAX_ITEMS}
-use Rattle.mr_forms.specs.Known.{AreSame, Part}
-use Rattle.mr_forms.specs.Covered.{has_item, listed_items, HasItems, all_covered}
-use Rattle.mr_forms.specs.Parts.{part_of, AreListable, ArePartsThat}
-use Rattle.mr_concise.specs.Vector.{vector_has}
-use Rattle.mr_concise.specs.Fragments.{ConciseFragment, items_text, fragment_text, knowledge_text}
-use Rattle.mr_itemset.specs.Normal.{Normal, normal_known, IsNormal}
-use Rattle.mr_itemset.specs.ItemForm.{IsNormalPart}
-use Rattle.mr_itemset.specs.NormalForm.{is_of, said, AreNormalOf}
-use Rattle.mr_itemset.specs.Groups.{all_grouped}
-use Rattle.mr_itemset.specs.Shown.{shown, shown_group, fragments_in, shown_items, shown_text, normal_text, Shown}
 use Rattle.mr_itemset.proofs.FormLemmas.{normal_parts_that}
 use Rattle.mr_itemset.proofs.GroupedLemmas.{parts_in, parts_are_normal}
 

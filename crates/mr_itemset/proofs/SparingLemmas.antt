@@ -1,22 +1,13 @@
 -- What all items know, and whether an author's column of it has holes to spare, told by what is settled and what is pending.
 use Rattle.std.proofs.Common.{◌≡◌, ◌<◌, ◌≤◌, ◌⊎◌, ◌||◌, ◌&&◌, ◌↔◌, Bool, true, false, ℕ, nat_lt, List, length, ap, sym, subst, ◌∙◌, arith, inl, inr}
-use Rattle.std.proofs.lemmas.Bool.{cases_Bool, lt-ltb, le-ltb}
-use Rattle.mr_version.specs.Name.{Name, name_eq}
-use Rattle.mr_forms.specs.Sets.{Versions, IsSame, both}
-use Rattle.mr_forms.specs.Known.{Pairs, AreSame, IsOverHolesInTurn, IsOverItemsInTurn, learned_of, with_below}
-use Rattle.mr_forms.specs.Runs.{of_author}
-use Rattle.mr_concise.specs.declared.vector.AuthorColumn.{AuthorColumn}
-use Rattle.mr_concise.specs.Column.{Extent}
-use Rattle.mr_concise.specs.Source.{IsColumnOf, HasFewerHoles, HasAtLeastHoles}
-use Rattle.mr_concise.specs.Vector.{column_of, vector_has}
-use Rattle.mr_concise.proofs.SweepLemmas.{IsColumnOf-unique}
-use Rattle.mr_concise.proofs.UnionLemmas.{column_of-IsColumn}
-use Rattle.mr_itemset.specs.Normal.{Normal, IsNormal, normal_known}
+use Rattle.mr_itemset.proofs.Names.{AreSame, AuthorColumn, Extent, HasAtLeastHoles, HasFewerHoles, IsColumnOf, IsColumnOf-unique, IsNormal, IsOverHolesInTurn}
+use Rattle.mr_itemset.proofs.Names.{IsOverItemsInTurn, IsSame, IsSplit, Name, Normal, Pairs, Versions, cases_Bool, column_of, column_of-IsColumn, goes_to_all}
+use Rattle.mr_itemset.proofs.Names.{holes_for_all, le-ltb, learned_of, lt-ltb, name_eq, normal_known, of_author, sparing_form, spreads, vector_has}
+use Rattle.mr_itemset.proofs.Names.{with_below}
+use Rattle.mr_forms.specs.Sets.{both}
 use Rattle.mr_itemset.specs.ItemForm.{with_all}
-use Rattle.mr_itemset.specs.Sparing.{holes_for_all, goes_to_all, spreads, sparing_form}
 use Rattle.mr_itemset.proofs.FoldedLemmas.{same_pairs}
 use Rattle.mr_itemset.proofs.HolesLemmas.{holes_counted}
-use Rattle.mr_itemset.specs.inner.Folded.{IsSplit}
 use Rattle.mr_itemset.proofs.SplitLemmas.{split_all}
 
 pub all_know_by : {limit : ℕ} (k settled : Normal) (pending : List AuthorColumn) (v : Name) → IsSplit limit k settled pending → (vector_has pending v || vector_has settled.all v) ≡ vector_has k.all v

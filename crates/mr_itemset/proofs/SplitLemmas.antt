@@ -1,20 +1,9 @@
 use Rattle.std.proofs.Common.{ℕ, ◌≡◌, ◌+◌, ◌⊎◌, ◌||◌, suc, Bool, true, false, List, All, refl, ap, sym, ◌∙◌, arith, inl, inr, Contains}
-use Rattle.std.specs.List.{list_any}
-use Rattle.std.specs.Prelude.{not}
-use Rattle.std.proofs.lemmas.Bool.{false≢true, cases_Bool}
-use Rattle.std.proofs.lemmas.List.Elements.{All-contains, All-contains_itself, All-weaker}
-use Rattle.mr_version.specs.Name.{Name, name_eq}
-use Rattle.mr_forms.specs.Sets.{Versions, IsSame, Covers, both}
-use Rattle.mr_forms.specs.Known.{Pairs, AreSame}
-use Rattle.mr_concise.specs.declared.vector.AuthorColumn.{AuthorColumn}
-use Rattle.mr_concise.specs.Vector.{vector_has}
-use Rattle.mr_itemset.specs.declared.knowledge.Listed.{Listed}
-use Rattle.mr_itemset.specs.Normal.{Normal, HasMore, IsNormal, vector_in, vector_of, normal_known}
-use Rattle.mr_itemset.specs.inner.Normal.{items_of}
+use Rattle.mr_itemset.proofs.Names.{All-contains, All-contains_itself, All-weaker, AreSame, AuthorColumn, Covers, HasMore, IsKept, IsNormal, IsSame, IsSplit}
+use Rattle.mr_itemset.proofs.Names.{Lacks, Listed, Name, Normal, Pairs, Versions, cases_Bool, false≢true, folded, items_of, list_any, name_eq, normal_known}
+use Rattle.mr_itemset.proofs.Names.{not, vector_has, vector_in, vector_of}
+use Rattle.mr_forms.specs.Sets.{both}
 use Rattle.mr_itemset.specs.ItemForm.{with_all}
-use Rattle.mr_itemset.specs.inner.Lacking.{Lacks}
-use Rattle.mr_itemset.specs.Folded.{folded, IsKept}
-use Rattle.mr_itemset.specs.inner.Folded.{IsSplit}
 use Rattle.mr_itemset.proofs.NormalLemmas.{top, free-above, vector_in-unlisted, vector_in-has, vector_in-cases}
 use Rattle.mr_itemset.proofs.ItemLemmas.{covers_all}
 use Rattle.mr_itemset.proofs.EachLemmas.{listed_item}

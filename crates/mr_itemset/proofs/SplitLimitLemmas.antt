@@ -1,14 +1,8 @@
 use Rattle.std.proofs.Common.{ℕ, ◌≡◌, Bool, ap, sym, ◌∙◌, subst, List}
-use Rattle.std.specs.Prelude.{◌↔◌, IsTrue}
-use Rattle.mr_version.specs.Name.{Name}
-use Rattle.mr_forms.specs.Sets.{Versions, both}
-use Rattle.mr_forms.specs.Known.{Pairs, AreSame, with_below}
-use Rattle.mr_concise.specs.declared.vector.AuthorColumn.{AuthorColumn}
-use Rattle.mr_concise.specs.Vector.{vector_has}
-use Rattle.mr_itemset.specs.Normal.{Normal, IsNormal, normal_known}
-use Rattle.mr_itemset.specs.ItemForm.{with_all, HasHoleyItem, ListsTooMany}
-use Rattle.mr_itemset.specs.inner.Room.{HasRoomWith}
-use Rattle.mr_itemset.specs.inner.Folded.{IsSplit}
+use Rattle.mr_itemset.proofs.Names.{AreSame, AuthorColumn, HasHoleyItem, HasRoomWith, IsNormal, IsSplit, IsTrue, ListsTooMany, Name, Normal, Pairs, Versions}
+use Rattle.mr_itemset.proofs.Names.{normal_known, vector_has, with_below, ◌↔◌}
+use Rattle.mr_forms.specs.Sets.{both}
+use Rattle.mr_itemset.specs.ItemForm.{with_all}
 use Rattle.mr_itemset.proofs.NormalLemmas.{normal_unique}
 use Rattle.mr_itemset.proofs.WithLemmas.{lists_few-with}
 use Rattle.mr_itemset.proofs.SplitLemmas.{all_twice, split_at}

@@ -1,30 +1,15 @@
 -- What is told of listed items, one after the other, and the groups of those of which the same is told.
 use Rattle.std.proofs.Common.{◌≡◌, ◌≤◌, ◌||◌, ◌⊎◌, ◌==◌, ℕ, Bool, true, false, not, List, [], ◌∷◌, ◌++◌, length, Some, None, All, map, refl, ap, sym, ◌∙◌, subst, eqb-true, arith, inl, inr}
-use Rattle.std.specs.List.{AllZip}
-use Rattle.std.proofs.lemmas.Bool.{false≢true, cases_Bool, eq-eqb}
-use Rattle.std.proofs.lemmas.List.Elements.{All-head, All-tail}
-use Rattle.mr_version.specs.Name.{Name}
-use Rattle.mr_forms.specs.Sets.{Versions, IsSame, Covers, both}
-use Rattle.mr_forms.specs.declared.fragment.TheConstants.{MAX_ITEMS}
-use Rattle.mr_concise.specs.declared.vector.AuthorColumn.{AuthorColumn}
-use Rattle.mr_concise.specs.Equal.{vector_eq}
-use Rattle.mr_concise.specs.Vector.{vector_has, IsVectorFrom, IsVectorOf}
-use Rattle.mr_concise.proofs.EqualLemmas.{vectors_same, vector_eq-same}
-use Rattle.mr_itemset.specs.declared.knowledge.Listed.{Listed}
-use Rattle.mr_itemset.specs.Folded.{united, gained, folded}
-use Rattle.mr_itemset.specs.inner.Folded.{Fits}
-use Rattle.mr_itemset.specs.Groups.{Alike, alone, with_item, takes, grouped, all_grouped}
-use Rattle.mr_itemset.specs.inner.Lacking.{Lacks}
-use Rattle.mr_itemset.specs.Normal.{Normal, HasMore, IsNormal}
-use Rattle.mr_itemset.specs.Shown.{Shown, shown_group, fragments_in}
-use Rattle.mr_itemset.specs.Told.{AreTold, IsToldOf}
-use Rattle.mr_itemset.specs.inner.Told.{IsToldItem, GainsTold, AreToldItems}
+use Rattle.mr_itemset.proofs.Names.{Alike, All-head, All-tail, AllZip, AreTold, AreToldItems, AuthorColumn, Covers, Fits, GainsTold, HasMore, IsNormal}
+use Rattle.mr_itemset.proofs.Names.{IsSame, IsToldItem, IsToldOf, IsVectorFrom, IsVectorOf, Lacks, Listed, MAX_ITEMS, Name, Normal, Shown, Versions}
+use Rattle.mr_itemset.proofs.Names.{all_grouped, alone, bound-is_last, cases_Bool, column_has-empty, column_of, eq-eqb, false≢true, fragments_in}
+use Rattle.mr_itemset.specs.Folded.{folded}
+use Rattle.mr_itemset.proofs.Names.{grouped, of_author, shown_group, takes, united, vector_eq, vector_eq-same, vector_has, vectors_same}
+use Rattle.mr_forms.specs.Sets.{both}
+use Rattle.mr_itemset.specs.Folded.{gained}
+use Rattle.mr_itemset.specs.Groups.{with_item}
 use Rattle.mr_itemset.proofs.ColumnsLemmas.{united-vector, united-has}
 use Rattle.mr_itemset.proofs.CountLemmas.{stays_yes, stays_no}
-use Rattle.mr_concise.proofs.LastLemmas.{bound-is_last}
-use Rattle.mr_concise.proofs.UnionLemmas.{column_has-empty}
-use Rattle.mr_concise.specs.Vector.{column_of}
-use Rattle.mr_forms.specs.Runs.{of_author}
 use Rattle.mr_itemset.proofs.ToldLemmas.{told_unique, told_same, told_beyond, beyond_parts, beyond_from}
 use Rattle.mr_itemset.proofs.ToldWalk.{joined, beyond_with, beyond_beside}
 

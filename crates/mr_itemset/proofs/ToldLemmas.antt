@@ -1,16 +1,8 @@
 -- What is told of an item: it leaves the meaning as it is, in columns with as few holes as any.
 use Rattle.std.proofs.Common.{◌≡◌, ◌<◌, ◌≤◌, ◌+◌, ◌↔◌, ◌&&◌, ◌⊎◌, ℕ, zero, suc, Bool, true, false, not, nat_le, length, refl, ap, sym, ◌∙◌, arith, inl, inr}
-use Rattle.std.proofs.lemmas.Bool.{false≢true, cases_Bool, cases_lt, cases_eq, and_parts, and_from, and_left, le-leb, leb-true, not-true, not_from_false, false_from_ne_true}
-use Rattle.std.proofs.lemmas.Bool.Decides.{same_from_decides}
-use Rattle.std.proofs.Math.Nat.{add-suc, add-zero, add_comm}
-use Rattle.mr_version.specs.Name.{Name}
-use Rattle.mr_forms.specs.Sets.{Versions}
-use Rattle.mr_forms.specs.Runs.{of_author}
-use Rattle.mr_concise.specs.Column.{Extent, column_has, edges}
-use Rattle.mr_concise.specs.Edges.{IsRising}
-use Rattle.mr_concise.proofs.LastLemmas.{column_has-above}
-use Rattle.mr_itemset.specs.Sparing.{holes_among}
-use Rattle.mr_itemset.specs.Told.{is_beyond, IsTold, IsToldOfAuthor, AreTold, HasFewestHoles}
+use Rattle.mr_itemset.proofs.Names.{AreTold, Extent, HasFewestHoles, IsRising, IsTold, IsToldOfAuthor, Name, Versions, add-suc, add-zero, add_comm, and_from}
+use Rattle.mr_itemset.proofs.Names.{and_left, and_parts, cases_Bool, cases_eq, cases_lt, column_has, column_has-above, edges, false_from_ne_true, false≢true}
+use Rattle.mr_itemset.proofs.Names.{holes_among, is_beyond, le-leb, leb-true, not-true, not_from_false, of_author, same_from_decides}
 use Rattle.mr_itemset.proofs.HolesLemmas.{holes_counted}
 
 -- ---- the meaning

@@ -1,26 +1,11 @@
 -- The fragments that tell what not all items have are the parts of their form, and mean what is known.
 use Rattle.std.proofs.Common.{◌≡◌, ◌<◌, ℕ, false, List, [], ◌∷◌, length, get_or, Option, Some, None, IfSome, All, Contains, map, refl, ap, sym, ◌∙◌, subst, arith}
-use Rattle.std.specs.List.{AllZip}
-use Rattle.std.proofs.lemmas.Bool.{cases_Bool}
-use Rattle.std.proofs.lemmas.Simd.{map-map}
-use Rattle.std.proofs.lemmas.List.Elements.{AllZip-get_or, length_all_zip}
-use Rattle.mr_version.specs.Name.{Name}
-use Rattle.mr_forms.specs.Known.{AreSame, Part}
-use Rattle.mr_forms.specs.Sets.{Versions}
-use Rattle.mr_forms.specs.Covered.{HasItems, all_covered}
-use Rattle.mr_forms.specs.Parts.{part_of, AreListable, ComesFirst, AreInOrder, ArePartsThat}
-use Rattle.mr_concise.specs.declared.vector.AuthorColumn.{AuthorColumn}
-use Rattle.mr_concise.specs.Fragments.{ConciseFragment}
-use Rattle.mr_concise.specs.Vector.{vector_has}
-use Rattle.mr_itemset.specs.Normal.{Normal, IsNormal, normal_known}
-use Rattle.mr_itemset.specs.ItemForm.{HasNormalVersions, IsNormalPart}
-use Rattle.mr_itemset.specs.NormalForm.{said}
-use Rattle.mr_itemset.specs.Groups.{all_grouped}
+use Rattle.mr_itemset.proofs.Names.{AllZip, AllZip-get_or, AreInOrder, AreListable, ArePartsThat, AreSame, AuthorColumn, ComesFirst, ConciseFragment}
+use Rattle.mr_itemset.proofs.Names.{HasItems, HasNormalVersions, IsNormal, IsNormalPart, IsSparest, IsToldOf, IsToldPart, MAX_ITEMS, Name, Normal, Part}
+use Rattle.mr_itemset.proofs.Names.{Shown, Spares, Tells, Versions, all_covered, all_grouped, cases_Bool, fragments_in, length_all_zip, map-map, normal_known}
+use Rattle.mr_itemset.proofs.Names.{part_of, said, shown, shown_group, vector_has}
 use Rattle.mr_itemset.proofs.GroupedLemmas.{part_of_group, parts_in, parts_are_normal}
-use Rattle.mr_itemset.specs.Shown.{Shown, shown, shown_group, fragments_in}
 use Rattle.mr_itemset.proofs.ShownLemmas.{part_in, said_covered, each_has_items}
-use Rattle.mr_itemset.specs.Told.{Tells, IsToldPart, IsToldOf, IsSparest, Spares}
-use Rattle.mr_forms.specs.declared.fragment.TheConstants.{MAX_ITEMS}
 use Rattle.mr_itemset.proofs.FormLemmas.{normal_parts_that}
 use Rattle.mr_itemset.proofs.ToldLemmas.{told_unique, told_same, has_fewest}
 

@@ -1,26 +1,11 @@
 -- How far a walk along what not all items have has come, and the column and the vector that it makes.
 use Rattle.std.proofs.Common.{◌≡◌, ◌<◌, ◌≤◌, ◌+◌, ◌-◌, ◌↔◌, ◌⊎◌, ◌==◌, ◌&&◌, ◌||◌, not, ℕ, zero, suc, Bool, true, false, nat_lt, cond, List, [], ◌∷◌, ◌++◌, length, All, take, drop, refl, ap, sym, ◌∙◌, subst, arith, inl, inr}
-use Rattle.std.specs.Prelude.{if◌then◌else◌}
-use Rattle.std.proofs.lemmas.Bool.{false≢true, cases_lt, cases_eq, lt-ltb, le-ltb, eq-eqb, ne_eqb}
-use Rattle.std.proofs.lemmas.Bool.Decides.{nat_tests}
-use Rattle.std.proofs.lemmas.List.Elements.{All-push}
-use Rattle.mr_forms.specs.Sets.{Versions, both}
-use Rattle.mr_forms.specs.Runs.{of_author, IsNextAuthor, HasNoAuthorFrom}
-use Rattle.mr_concise.specs.declared.column.Hole.{Hole}
-use Rattle.mr_concise.specs.declared.column.TheConstants.{COUNTERS_END}
-use Rattle.mr_concise.specs.declared.vector.AuthorColumn.{AuthorColumn}
-use Rattle.mr_concise.specs.Column.{Extent, hole_edges, column_has, IsColumn}
-use Rattle.mr_concise.specs.Edges.{IsRising}
-use Rattle.mr_concise.specs.inner.Edges.{is_on}
-use Rattle.mr_concise.proofs.EdgeLemmas.{IsRising-end}
-use Rattle.mr_concise.specs.Next.{IsNextIn, HasNoneFrom}
-use Rattle.mr_concise.specs.Vector.{column_of, vector_has, IsVectorFrom, with_column}
-use Rattle.mr_concise.proofs.ColumnLemmas.{column_has-edges}
-use Rattle.mr_concise.proofs.LastLemmas.{column_has-above}
-use Rattle.mr_concise.proofs.SweepLemmas.{extend}
-use Rattle.mr_concise.proofs.VectorLemmas.{IsVectorFrom-with_column, column_of-with_column, with_column-insert}
-use Rattle.mr_itemset.specs.Told.{is_beyond, IsTold, IsToldOfAuthor, AreTold}
-use Rattle.mr_itemset.specs.inner.Told.{Skips}
+use Rattle.mr_itemset.proofs.Names.{All-push, AreTold, AuthorColumn, COUNTERS_END, Extent, HasNoAuthorFrom, HasNoneFrom, Hole, IsColumn, IsNextAuthor}
+use Rattle.mr_itemset.proofs.Names.{IsNextIn, IsRising, IsRising-end, IsTold, IsToldOfAuthor, IsVectorFrom, IsVectorFrom-with_column, Skips, Versions}
+use Rattle.mr_itemset.proofs.Names.{cases_eq, cases_lt, column_has, column_has-above, column_has-edges, column_of, column_of-with_column, eq-eqb, extend}
+use Rattle.mr_itemset.proofs.Names.{false≢true, hole_edges, if◌then◌else◌, is_beyond, is_on, le-ltb, lt-ltb, nat_tests, ne_eqb, of_author, vector_has}
+use Rattle.mr_itemset.proofs.Names.{with_column, with_column-insert}
+use Rattle.mr_forms.specs.Sets.{both}
 use Rattle.mr_itemset.proofs.ToldLemmas.{beyond_parts, told_within, fewest}
 
 -- ---- one author

@@ -1,13 +1,8 @@
 use Rattle.std.proofs.Common.{◌||◌, ℕ, Bool, false, List, Option, subst, ap, sym, ◌∙◌}
-use Rattle.mr_version.specs.Name.{Name}
-use Rattle.mr_forms.specs.Sets.{Versions, IsSame, both}
-use Rattle.mr_forms.specs.Known.{Pairs, AreSame, HasValue}
-use Rattle.mr_concise.specs.declared.vector.AuthorColumn.{AuthorColumn}
-use Rattle.mr_concise.specs.Vector.{vector_has}
-use Rattle.mr_itemset.specs.Normal.{Normal, IsNormal, normal_known}
-use Rattle.mr_itemset.specs.ItemForm.{items_form, with_all, HasHoleyItem}
-use Rattle.mr_itemset.specs.Folded.{folded, IsKept}
-use Rattle.mr_itemset.specs.inner.Growth.{HasLearned, with_some_below}
+use Rattle.mr_itemset.proofs.Names.{AreSame, AuthorColumn, HasHoleyItem, HasLearned, HasValue, IsKept, IsNormal, IsSame, Name, Normal, Pairs, Versions}
+use Rattle.mr_itemset.proofs.Names.{folded, items_form, normal_known, vector_has, with_some_below}
+use Rattle.mr_forms.specs.Sets.{both}
+use Rattle.mr_itemset.specs.ItemForm.{with_all}
 use Rattle.mr_itemset.proofs.LimitLemmas.{lists_few}
 use Rattle.mr_itemset.proofs.FoldedLemmas.{folded_known, folded_normal, folded_pairs, normal_few, same_pairs}
 use Rattle.mr_itemset.proofs.SplitLemmas.{all_twice}

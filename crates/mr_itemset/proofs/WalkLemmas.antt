@@ -1,16 +1,9 @@
 use Rattle.std.proofs.Common.{◌≡◌, ◌⊎◌, List, [], ◌∷◌, ◌++◌, Option, Some, None, map, All, AllPairs, Contains, refl, ap, sym, ◌∙◌, arith, inl, inr}
-use Rattle.std.proofs.lemmas.List.{append-nil, map-append}
-use Rattle.std.proofs.lemmas.List.Elements.{All-nil, All-cons, All-head, All-tail, All-map, All-contains, Contains-append_right}
-use Rattle.std.proofs.lemmas.Map.Iter.{rest_more, rest_all, rest_so_far, iter_end}
+use Rattle.mr_itemset.proofs.Names.{All-cons, All-contains, All-head, All-map, All-nil, All-tail, AllPairs-head, AllPairs-tail, AuthorColumn}
+use Rattle.mr_itemset.proofs.Names.{Contains-append_right, Contains-cases, Contains-here, Contains-there, IsBefore, Listed, Name, TakesFirst, append-nil}
+use Rattle.mr_itemset.proofs.Names.{deref, deref_pair, iter_end, listed_as, listed_of, map-append, rest_all, rest_more, rest_so_far, vectors_of}
 use Rattle.std.specs.Iterator.{Yields}
-use Rattle.std.specs.Map.Iter.{TakesFirst, deref, deref_pair}
 use denote.Ref.{Bor}
-use Rattle.mr_forms.proofs.PartLemmas.{AllPairs-head, AllPairs-tail, Contains-cases, Contains-here, Contains-there}
-use Rattle.mr_version.specs.Name.{Name}
-use Rattle.mr_concise.specs.declared.vector.AuthorColumn.{AuthorColumn}
-use Rattle.mr_itemset.specs.declared.knowledge.Listed.{Listed}
-use Rattle.mr_itemset.specs.Normal.{IsBefore}
-use Rattle.mr_itemset.specs.inner.Entries.{listed_as, listed_of, vectors_of}
 
 -- ---- a loop over the vectors
 

@@ -1,26 +1,10 @@
 use Rattle.std.proofs.Common.{ℕ, ◌≡◌, ◌≤◌, ◌+◌, ◌⊎◌, suc, Bool, true, false, ◌||◌, ◌&&◌, List, ◌∷◌, length, All, Contains, refl, ap, sym, ◌∙◌, subst, arith, inl, inr}
-use Rattle.std.specs.List.{list_any}
-use Rattle.std.proofs.Math.ListN.{length-map}
-use Rattle.std.proofs.lemmas.Bool.{false≢true, cases_Bool, or_parts, or_cases}
-use Rattle.std.proofs.lemmas.Cmp.{eq_by_cmp_equiv}
-use Rattle.std.proofs.lemmas.List.Elements.{All-contains, All-cons, All-map, All-weaker, All-contains_itself}
-use Rattle.std.proofs.lemmas.Map.Keys.{IsDistinct-cons}
-use Rattle.std.proofs.lemmas.Map.Made.{length-le_from_is_member}
-use Rattle.mr_version.specs.Name.{Name, name_eq}
-use Rattle.mr_version.specs.Order.{names_total}
-use Rattle.mr_forms.specs.Sets.{Versions, IsSame, Covers, both}
-use Rattle.mr_forms.specs.Known.{Pairs, with_below}
-use Rattle.mr_forms.proofs.SetLemmas.{name_eq-symmetric}
-use Rattle.mr_forms.proofs.PairLemmas.{name_eq-itself}
-use Rattle.mr_concise.specs.declared.vector.AuthorColumn.{AuthorColumn}
-use Rattle.mr_concise.specs.Vector.{vector_has, HasTooManyHoles}
-use Rattle.mr_itemset.specs.declared.knowledge.Listed.{Listed}
-use Rattle.mr_itemset.specs.Normal.{Normal, HasMore, IsNormal, normal_known, vector_of}
-use Rattle.mr_itemset.specs.inner.Normal.{items_of}
-use Rattle.mr_itemset.specs.ItemForm.{ListsTooMany, HasHoleyItem, with_all}
-use Rattle.mr_itemset.specs.inner.Lacking.{Lacks}
-use Rattle.mr_itemset.specs.inner.Placed.{Lists}
-use Rattle.mr_itemset.specs.inner.Room.{Drops, HasRoomWith}
+use Rattle.mr_itemset.proofs.Names.{All-cons, All-contains, All-contains_itself, All-map, All-weaker, AuthorColumn, Covers, Drops, HasHoleyItem, HasMore}
+use Rattle.mr_itemset.proofs.Names.{HasRoomWith, HasTooManyHoles, IsDistinct-cons, IsNormal, IsSame, Lacks, Listed, Lists, ListsTooMany, Name, Normal, Pairs}
+use Rattle.mr_itemset.proofs.Names.{Versions, cases_Bool, eq_by_cmp_equiv, false≢true, items_of, length-le_from_is_member, length-map, list_any, name_eq}
+use Rattle.mr_itemset.proofs.Names.{name_eq-itself, name_eq-symmetric, names_total, normal_known, or_cases, or_parts, vector_has, vector_of, with_below}
+use Rattle.mr_forms.specs.Sets.{both}
+use Rattle.mr_itemset.specs.ItemForm.{with_all}
 use Rattle.mr_itemset.proofs.NormalLemmas.{same_name, top, free-above, vector_in-has, vector_in-unlisted}
 use Rattle.mr_itemset.proofs.LimitLemmas.{any_all}
 use Rattle.mr_itemset.proofs.ItemLemmas.{same_tests}

@@ -1,13 +1,9 @@
 -- one more batch behind those of a journal
 use Rattle.std.proofs.Common.{◌≡◌, ◌⊎◌, inl, inr, ⊎_elim, ℕ, zero, suc, ◌+◌, ◌*◌, List, [], ◌∷◌, ◌++◌, length, refl, sym, ◌∙◌, ap, arith, length-append, append_assoc}
-use Rattle.std.proofs.lemmas.List.{append-nil}
-use Rattle.std.proofs.lemmas.List.Concat.{flat_map-append}
-use Rattle.std.specs.List.{flat_map, slice_index, AllByRecursion}
-use Rattle.std.specs.Int.{w32, to_be_bytes}
-use Rattle.sha2.specs.Sha256.{sha256, digest_bytes}
-use Rattle.mr_journal.specs.Device.{LeavesOnly}
-use Rattle.mr_journal.specs.inner.Device.{IsStaged}
-use Rattle.mr_journal.specs.Format.{AreBatches, Fits, IsBatch, Stands, batch, body, head, sealed, u64}
+use Rattle.mr_journal.proofs.Names.{AllByRecursion, AreBatches, Fits, IsBatch, IsStaged, LeavesOnly, Stands, append-nil, batch, body, flat_map}
+use Rattle.sha2.specs.Sha256.{digest_bytes}
+use Rattle.mr_journal.proofs.Names.{flat_map-append, head, sealed, slice_index, to_be_bytes, u64, w32}
+use Rattle.sha2.specs.Sha256.{sha256}
 use Rattle.mr_journal.specs.Journal.{Keeps}
 use Rattle.mr_journal.specs.declared.journal.Journal.{Journal}
 use Rattle.mr_journal.proofs.Moments.{widened}

@@ -1,9 +1,8 @@
 -- what a crash makes of a write behind a closed gate, of one over the gate, and of a cut
 use Rattle.std.proofs.Common.{◌≡◌, ◌⊎◌, inl, inr, ⊎_elim, ℕ, zero, suc, ◌+◌, ◌<◌, List, [], ◌∷◌, ◌++◌, length, take, drop, sym, ◌∙◌, ap, subst, arith, length-append, length-drop, take-append-drop, append_assoc}
-use Rattle.std.proofs.lemmas.List.{append-nil, take_at, drop_at, take_all, drop_all, ext_get_or, get_or-take, length-take-le}
+use Rattle.mr_journal.proofs.Names.{IsOldOrWritten, IsStaged, Torn, append-nil, drop_all, drop_at, ext_get_or, get_or-take, length-take-le, overwritten}
+use Rattle.mr_journal.proofs.Names.{take_all, take_at}
 use native.Mathlib.Numerals.{unary_clauses}
-use Rattle.mr_journal.specs.Device.{Torn, IsOldOrWritten, overwritten}
-use Rattle.mr_journal.specs.inner.Device.{IsStaged}
 
 -- a write at the end leaves what was there
 pub torn_end : (file bytes c : List ℕ) → Torn (length file) bytes file c → c ≡ file ++ drop (length file) c

@@ -1,3 +1,4 @@
+pub mod Names
 pub mod PastLemmas
 pub mod Moments
 pub mod Crashes

@@ -1,8 +1,6 @@
 -- one more content joins those that a file in memory has had
 use Rattle.std.proofs.Common.{◌≡◌, ◌⊎◌, inl, inr, ⊎_elim, ℕ, List, [], ◌∷◌, ◌++◌, length, drop, Vec, sym, ◌∙◌, subst, arith, length-append}
-use Rattle.std.proofs.lemmas.List.{drop-append-le}
-use Rattle.std.specs.declared.alloc.Global.{Global}
-use Rattle.mr_journal.specs.Device.{Passes}
+use Rattle.mr_journal.proofs.Names.{Global, Passes, drop-append-le}
 use Rattle.mr_journal.specs.Past.{HadBeen, LeftSince}
 
 abbrev Contents : Type 0

@@ -1,21 +1,11 @@
 -- what the bytes at a place say
 use Rattle.std.proofs.Common.{◌≡◌, ◌≢◌, ⊎_elim, ℕ, zero, suc, ◌+◌, ◌<◌, ◌≤◌, ◌^◌, min, Bool, true, false, not, Option, Result, Err, Vec, List, [], ◌∷◌, ◌++◌, length, get_or, take, drop, refl, sym, ◌∙◌, ap, subst, arith, length-append, length-take, length-drop, take-append-drop, append_assoc}
-use Rattle.std.proofs.lemmas.List.{append-nil, take_at, drop_at, drop-drop, drop_more, get_or-take, get_or-drop, get_or_past}
-use Rattle.std.proofs.lemmas.Bool.{cases_lt, not-false, not-true}
-use Rattle.std.proofs.lemmas.Bool.Decides.{not_from_Decides}
+use Rattle.mr_journal.proofs.Names.{AreBatches, AreEntries, Damaged, Failed, Global, IsBatch, IsDamagedAt, IsFound, IsNothing, IsReason, JournalFault}
+use Rattle.mr_journal.proofs.Names.{OutOfMemory, append-nil, batch, be_bytes_4, be_bytes_8, body, cases_lt, drop-drop, drop_at, drop_more, entry_bytes}
+use Rattle.mr_journal.proofs.Names.{flat_map-append, framed, from_be_bytes, from_be_bytes-to_be_bytes_4, from_be_bytes-to_be_bytes_8, get_or-drop}
+use Rattle.mr_journal.proofs.Names.{get_or-take, get_or_past, head, not-false, not-true, not_from_Decides, sha256, take_at, u32, u64, w32, w64}
 use Rattle.std.proofs.lemmas.Slice.Eq.{bytes_eq-Decides}
 use Rattle.std.specs.Str.{bytes_eq}
-use Rattle.std.specs.declared.alloc.Global.{Global}
-use Rattle.std.proofs.lemmas.Nat.{be_bytes_4, be_bytes_8, from_be_bytes-to_be_bytes_4, from_be_bytes-to_be_bytes_8}
-use Rattle.std.specs.Int.{w32, w64, from_be_bytes}
-use Rattle.std.proofs.lemmas.List.Concat.{flat_map-append}
-use Rattle.sha2.specs.Sha256.{sha256}
-use Rattle.mr_journal.specs.Format.{AreBatches, AreEntries, IsBatch, IsDamagedAt, batch, body, entry_bytes, head, u32, u64}
-use Rattle.mr_journal.specs.inner.Format.{framed}
-use Rattle.mr_journal.specs.declared.fault.JournalFault.{JournalFault}
-use Rattle.mr_journal.specs.declared.fault.JournalFault.TheVariants.{OutOfMemory, Failed, Damaged}
-use Rattle.mr_journal.specs.Reading.{IsReason}
-use Rattle.mr_journal.specs.inner.Reading.{IsFound, IsNothing}
 use Rattle.mr_journal.proofs.BatchLemmas.{length-sealed, length-sha256, grown}
 
 -- a byte of a part of bytes is a byte

@@ -1,16 +1,7 @@
 -- files that stand for the same entries
 use Rattle.std.proofs.Common.{◌≡◌, ◌⊎◌, inl, inr, ℕ, zero, suc, ◌+◌, ◌-◌, ◌<◌, ◌≤◌, List, [], ◌∷◌, ◌++◌, Err, length, get_or, take, drop, refl, sym, ◌∙◌, ap, arith, length-append, length-take, length-drop, take-append-drop, append_assoc, codes}
-use Rattle.std.proofs.lemmas.List.{take_at, take_all}
-use Rattle.std.proofs.lemmas.Nat.{be_bytes_2}
-use Rattle.std.specs.Int.{w16, from_be_bytes}
-use Rattle.mr_journal.specs.declared.fault.JournalFault.{JournalFault}
-use Rattle.mr_journal.specs.declared.fault.JournalFault.TheVariants.{NotAJournal, OtherFormat}
-use Rattle.mr_journal.specs.Device.{Cut, IsUntouched, LeavesOnly, Only, Rests, Torn}
-use Rattle.mr_journal.specs.inner.Device.{IsStaged}
-use Rattle.mr_journal.specs.Format.{IsNew, Stands, StandAlike, head, u16}
-use Rattle.mr_journal.specs.inner.Format.{IsRead}
-use Rattle.mr_journal.specs.Reading.{IsReason}
-use Rattle.mr_journal.specs.inner.Reading.{IsHeadOf}
+use Rattle.mr_journal.proofs.Names.{Cut, IsHeadOf, IsNew, IsRead, IsReason, IsStaged, IsUntouched, JournalFault, LeavesOnly, NotAJournal, Only, OtherFormat}
+use Rattle.mr_journal.proofs.Names.{Rests, StandAlike, Stands, Torn, be_bytes_2, from_be_bytes, head, take_all, take_at, u16, w16}
 use Rattle.mr_journal.proofs.Moments.{joined, widened}
 use Rattle.mr_journal.proofs.ReadLemmas.{byte_of_part, none_yet}
 

@@ -1,15 +1,8 @@
 -- bytes stand for one list of entries, and are then not refused
 use Rattle.std.proofs.Common.{◌≡◌, ◌≢◌, ◌⊎◌, inl, inr, ℕ, ◌<◌, ◌^◌, List, [], ◌∷◌, ◌++◌, length, get_or, take, drop, refl, sym, ◌∙◌, ap, arith, length-append, append_assoc}
-use Rattle.std.proofs.lemmas.List.{append_cancel_left, take_at, drop_at}
-use Rattle.std.proofs.lemmas.Nat.{from_be_bytes-to_be_bytes_2}
-use Rattle.std.specs.Int.{w16, from_be_bytes}
-use Rattle.std.specs.List.{flat_map, AllByRecursion}
-use Rattle.sha2.specs.Sha256.{sha256}
-use Rattle.mr_journal.specs.declared.fault.JournalFault.{JournalFault}
-use Rattle.mr_journal.specs.declared.fault.JournalFault.TheVariants.{OutOfMemory, Failed, NotAJournal, OtherFormat, Damaged, TooLarge}
-use Rattle.mr_journal.specs.Format.{AreBatches, AreEntries, IsBatch, IsNew, Stands, batch, body, entry_bytes, head, u16, u32}
-use Rattle.mr_journal.specs.inner.Format.{framed}
-use Rattle.mr_journal.specs.Reading.{IsReason}
+use Rattle.mr_journal.proofs.Names.{AllByRecursion, AreBatches, AreEntries, Damaged, Failed, IsBatch, IsNew, IsReason, JournalFault, NotAJournal, OtherFormat}
+use Rattle.mr_journal.proofs.Names.{OutOfMemory, Stands, TooLarge, append_cancel_left, batch, body, drop_at, entry_bytes, flat_map, framed, from_be_bytes}
+use Rattle.mr_journal.proofs.Names.{from_be_bytes-to_be_bytes_2, head, sha256, take_at, u16, u32, w16}
 use Rattle.mr_journal.proofs.ReadLemmas.{drop-framed, entry_front, framed_batch, same_front, take-framed}
 
 -- bodies that are spelled alike are of the same entries

@@ -1,13 +1,7 @@
 -- A letter as an event of a kept replica: what comes of it, where its reply is known at once and where it is held back.
 use Rattle.std.proofs.Common.{◌≡◌, List, [], ◌∷◌, ◌++◌, Option, Some, None, Result, Ok, Err, sym, ap, subst, ◌∙◌, append-nil}
-use Rattle.std.specs.Prelude.{IfErr, IfOk}
-use Rattle.mr_forms.specs.Known.{Form}
-use Rattle.mr_replica.specs.declared.event.Event.{Event}
-use Rattle.mr_replica.specs.declared.event.Reply.{Reply}
-use Rattle.mr_kept.specs.Kept.{AtOnce, Later, SameJournal, leaving}
-use Rattle.mr_kept.specs.declared.fault.KeptFault.{KeptFault}
-use Rattle.mr_kept.specs.declared.journaled.Journaled.{Journaled}
-use Rattle.mr_kept_node.specs.Letter.{Asked, Turned, at_once, held_back}
+use Rattle.mr_kept_node.proofs.Names.{Asked, AtOnce, Event, Form, IfErr, IfOk, Journaled, KeptFault, Later, Reply, SameJournal, Turned, at_once, held_back}
+use Rattle.mr_kept_node.proofs.Names.{leaving}
 use Rattle.mr_kept_node.specs.inner.Letter.{later_of, now_of}
 
 module _ {K D V : Type 0} (form : Form K) (old new : Journaled K D V) where

@@ -1,24 +1,10 @@
 -- What was told is the feed of a replica with just the events that were answered.
 use Rattle.std.proofs.Common.{⊎_elim, ℕ, Bool, List, [], ◌∷◌, ◌++◌, length, take, Option, Result, Ok, Err, sym, ap, subst, ◌∙◌, append_assoc}
-use Rattle.std.proofs.lemmas.List.{append-nil}
+use Rattle.mr_kept_node.proofs.Names.{Event, Form, Goes, IsFeedOf, IsItsLog, KeptFault, KeptMachine, Passed, Refusal, Replays, Reply, Sender, State, Stopped}
+use Rattle.mr_kept_node.proofs.Names.{Takes, TakesBy, admitted_of, append-nil, log_of, replica_of, step_feed, told_of}
 use Rattle.std.proofs.Math.Seq.{take-append_seam, take-length}
-use Rattle.mr_forms.specs.Known.{Form}
 use Rattle.mr_feed.specs.declared.entry.Entry.{Entry}
-use Rattle.mr_lane.specs.declared.note.Sender.{Sender}
-use Rattle.mr_replica.specs.State.{State}
-use Rattle.mr_replica.specs.Replay.{IsItsLog}
-use Rattle.mr_replica.specs.declared.event.Event.{Event}
-use Rattle.mr_replica.specs.declared.event.Reply.{Reply}
-use Rattle.mr_replica.specs.declared.refusal.Refusal.{Refusal}
 use Rattle.mr_replica.proofs.Replaying as replaying
-use Rattle.mr_replica.proofs.Replaying.{step_feed}
-use Rattle.mr_kept.specs.Kept.{replica_of}
-use Rattle.mr_kept.specs.declared.fault.KeptFault.{KeptFault}
-use Rattle.mr_threads.specs.Exchange.{Replays}
-use Rattle.mr_node.specs.Machine.{admitted_of}
-use Rattle.mr_kept_node.specs.Machine.{Goes, Stopped, Takes, TakesBy, told_of}
-use Rattle.mr_kept_node.specs.Node.{IsFeedOf, Passed, log_of}
-use Rattle.mr_kept_node.specs.declared.machine.KeptMachine.{KeptMachine}
 use Rattle.mr_kept_node.proofs.Stepping.{Ready, declined_same, kept_log, passed, ready_declined, ready_kept, rests}
 
 module _ {K D V : Type 0} (form : Form K) where

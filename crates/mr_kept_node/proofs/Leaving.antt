@@ -1,29 +1,8 @@
 -- What crashes leave of the device while letters are taken.
 use Rattle.std.proofs.Common.{◌≡◌, ◌⊎◌, ⊎_elim, ℕ, Bool, List, [], ◌∷◌, ◌++◌, Option, Result, Ok, Err, refl, sym, ap, subst, ◌∙◌, append_assoc}
-use Rattle.std.specs.Prelude.{IsTrue, map}
-use Rattle.std.proofs.lemmas.List.{append-nil}
-use Rattle.mr_forms.specs.Known.{Form}
-use Rattle.mr_journal.specs.Device.{LeavesOnly}
-use Rattle.mr_journal.specs.Format.{Stands}
-use Rattle.mr_journal.specs.Journal.{device_of}
-use Rattle.mr_journal.proofs.Moments.{joined, started, widened}
-use Rattle.mr_entry.specs.Events.{events_of}
-use Rattle.mr_entry.specs.Note.{NoteParts}
-use Rattle.mr_entry.specs.Spelling.{entry_bytes}
-use Rattle.mr_entry.specs.declared.entry.Entry.{Entry}
-use Rattle.mr_replica.specs.State.{State}
-use Rattle.mr_replica.specs.declared.event.Event.{Event}
-use Rattle.mr_replica.specs.declared.event.Reply.{Reply}
-use Rattle.mr_replica.specs.declared.refusal.Refusal.{Refusal}
-use Rattle.mr_kept.specs.Entries.{notes_of}
-use Rattle.mr_kept.specs.Kept.{IsKept}
-use Rattle.mr_kept.specs.declared.fault.KeptFault.{KeptFault}
-use Rattle.mr_kept.proofs.KeptLemmas.{kept_on, stands_now}
-use Rattle.mr_threads.specs.Exchange.{Replays}
-use Rattle.mr_kept_node.specs.Keeping.{device_under, entries_with}
-use Rattle.mr_kept_node.specs.Machine.{Declined, Goes, Kept, Stopped, Takes, TakesBy}
-use Rattle.mr_kept_node.specs.Node.{Passed, TellsBetween, log_of}
-use Rattle.mr_kept_node.specs.declared.machine.KeptMachine.{KeptMachine}
+use Rattle.mr_kept_node.proofs.Names.{Declined, Entry, Event, Form, Goes, IsKept, IsTrue, Kept, KeptFault, KeptMachine, LeavesOnly, NoteParts, Passed}
+use Rattle.mr_kept_node.proofs.Names.{Refusal, Replays, Reply, Stands, State, Stopped, Takes, TakesBy, TellsBetween, append-nil, device_of, device_under}
+use Rattle.mr_kept_node.proofs.Names.{entries_with, entry_bytes, events_of, joined, kept_on, log_of, map, notes_of, stands_now, started, widened}
 use Rattle.mr_kept_node.proofs.Running.{log_ran}
 use Rattle.mr_kept_node.proofs.Stepping.{Ready, all_told, declined_same, events_with, notes_with, ready_declined, ready_kept, rests, stopped_log}
 

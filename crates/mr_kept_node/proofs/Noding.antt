@@ -1,17 +1,11 @@
 -- What a node over a kept replica comes to, for its parts.
 use Rattle.std.proofs.Common.{◌≡◌, ◌≤◌, ℕ, Bool, true, List, refl, subst}
-use Rattle.mr_forms.specs.Known.{Form}
-use Rattle.mr_lane.specs.declared.note.Sender.{Sender}
+use Rattle.mr_kept_node.proofs.Names.{Form, IsItsLog, Journaled, KeptMachine, KeptNodeRan, Sender, Takes, in_machine, machine_of, nothing_waits, replica_of}
+use Rattle.mr_kept_node.proofs.Names.{told_of}
 use Rattle.mr_link.specs.Link.{LinkView}
-use Rattle.mr_replica.specs.Replay.{IsItsLog}
-use Rattle.mr_kept.specs.Kept.{nothing_waits, replica_of}
-use Rattle.mr_kept.specs.declared.journaled.Journaled.{Journaled}
 use Rattle.mr_node.specs.Node.{NodeRan}
 use Rattle.mr_node.specs.declared.node.NodeParts.{NodeParts}
 use Rattle.mr_node.specs.declared.node.NodeEnd.{NodeEnd}
-use Rattle.mr_kept_node.specs.Machine.{Takes, machine_of, told_of}
-use Rattle.mr_kept_node.specs.Node.{KeptNodeRan, in_machine}
-use Rattle.mr_kept_node.specs.declared.machine.KeptMachine.{KeptMachine}
 use Rattle.mr_kept_node.proofs.Feeding.{told_ran}
 use Rattle.mr_kept_node.proofs.Opening.{opens}
 use Rattle.mr_kept_node.proofs.Reaching.{reach, safe_since}

@@ -1,30 +1,10 @@
 -- At each moment a crash leaves a journal that opens again.
 use Rattle.std.proofs.Common.{◌≡◌, ◌⊎◌, ⊎_elim, ℕ, Bool, List, [], ◌∷◌, ◌++◌, Option, Result, Ok, Err, sym, subst}
-use Rattle.std.specs.Prelude.{IsTrue}
-use Rattle.mr_forms.specs.Known.{Form}
-use Rattle.mr_journal.specs.Device.{LeavesOnly}
-use Rattle.mr_journal.proofs.Moments.{joined, started, widened}
-use Rattle.mr_entry.specs.Head.{HeadParts}
-use Rattle.mr_entry.specs.Note.{NoteParts}
-use Rattle.mr_entry.specs.declared.entry.Entry.{Entry}
-use Rattle.mr_replica.specs.Replay.{IsItsLog}
-use Rattle.mr_replica.specs.State.{State}
-use Rattle.mr_replica.specs.declared.event.Event.{Event}
-use Rattle.mr_replica.specs.declared.event.Reply.{Reply}
-use Rattle.mr_replica.specs.declared.refusal.Refusal.{Refusal}
+use Rattle.mr_kept_node.proofs.Names.{Declined, Entry, Event, Form, Goes, HasLog, HeadParts, IsItsLog, IsKept, IsOf, IsTrue, Kept, KeptFault, KeptMachine}
+use Rattle.mr_kept_node.proofs.Names.{LeavesOnly, NoteParts, Passed, Refusal, Replays, Reply, State, Takes, TakesBy, device_under, entries_with, head_of}
+use Rattle.mr_kept_node.proofs.Names.{head_on, joined, left_now, no_note_waits, notes_of, notes_waiting, replica_of, same_notes, started, step_setting}
+use Rattle.mr_kept_node.proofs.Names.{widened}
 use Rattle.mr_replica.proofs.Replaying as replaying
-use Rattle.mr_replica.proofs.Replaying.{step_setting}
-use Rattle.mr_kept.specs.Entries.{notes_of}
-use Rattle.mr_kept.specs.Kept.{IsKept, head_of, notes_waiting, replica_of}
-use Rattle.mr_kept.specs.Whole.{HasLog, IsOf}
-use Rattle.mr_kept.specs.declared.fault.KeptFault.{KeptFault}
-use Rattle.mr_kept.proofs.LeftLemmas.{head_on, left_now, same_notes}
-use Rattle.mr_kept.proofs.OpenLemmas.{no_note_waits}
-use Rattle.mr_threads.specs.Exchange.{Replays}
-use Rattle.mr_kept_node.specs.Keeping.{device_under, entries_with}
-use Rattle.mr_kept_node.specs.Machine.{Declined, Goes, Kept, Takes, TakesBy}
-use Rattle.mr_kept_node.specs.Node.{Passed}
-use Rattle.mr_kept_node.specs.declared.machine.KeptMachine.{KeptMachine}
 use Rattle.mr_kept_node.proofs.Leaving.{device_declined, kept_declined}
 use Rattle.mr_kept_node.proofs.Stepping.{Ready, declined_same, notes_with, ready_declined, ready_kept, rests}
 

@@ -1,31 +1,9 @@
 -- The state that a machine has reached behind some letters, and what a crash leaves from there on.
 use Rattle.std.proofs.Common.{◌≡◌, ◌≢◌, ⊎_elim, ◌≤◌, ℕ, Bool, List, [], ◌∷◌, ◌++◌, Option, Some, None, Result, Ok, Err, refl, sym, ap, subst, ◌∙◌, append_assoc}
-use Rattle.std.specs.Prelude.{IsTrue}
-use Rattle.std.proofs.lemmas.List.{append-nil}
-use Rattle.mr_forms.specs.Known.{Form}
-use Rattle.mr_journal.specs.Device.{LeavesOnly}
-use Rattle.mr_journal.proofs.Moments.{started}
-use Rattle.mr_entry.specs.Events.{events_of}
-use Rattle.mr_entry.specs.Note.{NoteParts}
-use Rattle.mr_entry.specs.declared.entry.Entry.{Entry}
-use Rattle.mr_lane.specs.declared.note.Sender.{Sender}
-use Rattle.mr_replica.specs.Replay.{IsItsLog}
-use Rattle.mr_replica.specs.declared.event.Event.{Event}
-use Rattle.mr_replica.specs.declared.event.Reply.{Reply}
-use Rattle.mr_replica.specs.declared.refusal.Refusal.{Refusal}
-use Rattle.mr_kept.specs.Entries.{notes_of}
-use Rattle.mr_kept.specs.Kept.{IsKept, replica_of}
-use Rattle.mr_kept.specs.declared.fault.KeptFault.{KeptFault}
-use Rattle.mr_kept.specs.declared.fault.KeptFault.TheVariants.{Failed}
-use Rattle.mr_kept.specs.declared.journaled.Journaled.{Journaled}
-use Rattle.mr_kept.proofs.EntryLemmas.{events_append, notes_append}
-use Rattle.mr_kept.proofs.KeptLemmas.{stands_now}
-use Rattle.mr_threads.specs.Exchange.{Replays}
-use Rattle.mr_node.specs.Machine.{admitted_of}
-use Rattle.mr_kept_node.specs.Keeping.{device_under, entries_with}
-use Rattle.mr_kept_node.specs.Machine.{Goes, Stopped, Takes, TakesBy}
-use Rattle.mr_kept_node.specs.Node.{KeepsEvents, Passed, SafeSince, TellsBetween, log_of}
-use Rattle.mr_kept_node.specs.declared.machine.KeptMachine.{KeptMachine}
+use Rattle.mr_kept_node.proofs.Names.{Entry, Event, Failed, Form, Goes, IsItsLog, IsKept, IsTrue, Journaled, KeepsEvents, KeptFault, KeptMachine, LeavesOnly}
+use Rattle.mr_kept_node.proofs.Names.{NoteParts, Passed, Refusal, Replays, Reply, SafeSince, Sender, Stopped, Takes, TakesBy, TellsBetween, admitted_of}
+use Rattle.mr_kept_node.proofs.Names.{append-nil, device_under, entries_with, events_append, events_of, log_of, notes_append, notes_of, replica_of}
+use Rattle.mr_kept_node.proofs.Names.{stands_now, started}
 use Rattle.mr_kept_node.proofs.Feeding.{told_ran}
 use Rattle.mr_kept_node.proofs.Leaving.{kept_declined, leaves, tells_least, tells_less, tells_letter}
 use Rattle.mr_kept_node.proofs.Stepping.{Ready, all_told, events_with, letter_told, no_note_told, notes_with, passed, ready_declined, ready_kept, replays_cut, rests, stopped_log}

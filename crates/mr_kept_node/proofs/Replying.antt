@@ -1,10 +1,7 @@
 -- The reply to a letter: the one that is known at once, or else the last that the commit hands out.
 use Rattle.std.proofs.Common.{◌≡◌, ◌≢◌, ◌⊎◌, ⊎_elim, inl, inr, false, List, [], ◌∷◌, ◌++◌, Option, Some, None, refl, sym, ap, ◌∙◌}
-use Rattle.std.specs.Prelude.{IfSome, is_some}
-use Rattle.mr_replica.specs.declared.event.Event.{Event}
+use Rattle.mr_kept_node.proofs.Names.{Event, IfSome, Reply, at_once, held_back, held_by, is_some}
 use Rattle.mr_replica.specs.declared.event.Event.TheVariants.{Create, Edit, Pull, Next, Vouch, Answer, Receive, CutIn, CutOut, Release, Retire}
-use Rattle.mr_replica.specs.declared.event.Reply.{Reply}
-use Rattle.mr_kept_node.specs.Letter.{at_once, held_back, held_by}
 
 -- ---- known at once
 

@@ -1,21 +1,8 @@
 -- Letter by letter: the log, and where a machine stops.
 use Rattle.std.proofs.Common.{◌≡◌, ⊎_elim, ℕ, Bool, true, List, [], ◌∷◌, ◌++◌, length, Option, Some, None, Result, Ok, Err, refl, sym, ap, subst, ◌∙◌, append_assoc}
-use Rattle.std.specs.Prelude.{MatchOption}
-use Rattle.std.proofs.lemmas.List.{append-nil}
-use Rattle.mr_forms.specs.Known.{Form}
-use Rattle.mr_lane.specs.declared.note.Sender.{Sender}
-use Rattle.mr_replica.specs.State.{State}
-use Rattle.mr_replica.specs.declared.event.Event.{Event}
-use Rattle.mr_replica.specs.declared.event.Reply.{Reply}
-use Rattle.mr_replica.specs.declared.refusal.Refusal.{Refusal}
-use Rattle.mr_replica.specs.declared.refusal.Refusal.TheVariants.{OutOfMemory}
-use Rattle.mr_kept.specs.Kept.{head_of, nothing_waits, replica_of}
-use Rattle.mr_kept.specs.declared.fault.KeptFault.{KeptFault}
-use Rattle.mr_threads.specs.Exchange.{Replays}
-use Rattle.mr_node.specs.Machine.{admitted_of}
-use Rattle.mr_kept_node.specs.Machine.{Declined, Goes, Kept, Stopped, Takes, TakesBy}
-use Rattle.mr_kept_node.specs.Node.{EndsUnkept, Passed, log_of}
-use Rattle.mr_kept_node.specs.declared.machine.KeptMachine.{KeptMachine}
+use Rattle.mr_kept_node.proofs.Names.{Declined, EndsUnkept, Event, Form, Goes, Kept, KeptFault, KeptMachine, MatchOption, OutOfMemory, Passed, Refusal}
+use Rattle.mr_kept_node.proofs.Names.{Replays, Reply, Sender, State, Stopped, Takes, TakesBy, admitted_of, append-nil, head_of, log_of, nothing_waits}
+use Rattle.mr_kept_node.proofs.Names.{replica_of}
 use Rattle.mr_kept_node.proofs.Stepping.{Ready, declined_same, kept_log, passed, ready_declined, ready_kept, rests, stopped_log}
 
 -- the other case stays, and this one becomes that

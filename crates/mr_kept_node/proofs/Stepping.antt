@@ -1,35 +1,12 @@
 -- A machine that goes on, and one that has stopped.
 use Rattle.std.proofs.Common.{◌≡◌, ◌≤◌, ◌==◌, ◌&&◌, ℕ, Bool, true, false, List, [], ◌∷◌, ◌++◌, length, Option, Some, None, Result, Ok, Err, refl, sym, ap, subst, ◌∙◌}
-use Rattle.std.specs.Prelude.{nat_le}
+use Rattle.mr_kept_node.proofs.Names.{Declined, Entry, Event, Form, IsKept, Journaled, Kept, KeptFault, KeptMachine, NoteParts, OutOfMemory, Passed, Refusal}
+use Rattle.mr_kept_node.proofs.Names.{Replays, Reply, Sender, State, Stopped, Takes, TakesBy, admitted_of, append-nil, drop_all, entries_with, events_append}
+use Rattle.mr_kept_node.proofs.Names.{events_of, false≢true, issued_of, kept_of, leb-true, log_of, nat_le, no_note_waits, notes_append, notes_of}
+use Rattle.mr_kept_node.proofs.Names.{notes_waiting, nothing_waits, replica_of, step_log, take_all, waiting}
 use Rattle.std.specs.List.{AllByRecursion}
-use Rattle.std.proofs.lemmas.Bool.{false≢true, leb-true}
-use Rattle.std.proofs.lemmas.List.{drop_all, take_all}
-use Rattle.mr_forms.specs.Known.{Form}
-use Rattle.mr_entry.specs.Events.{events_of}
-use Rattle.mr_entry.specs.Note.{NoteParts}
-use Rattle.mr_entry.specs.declared.entry.Entry.{Entry}
-use Rattle.mr_lane.specs.declared.note.Sender.{Sender}
-use Rattle.mr_replica.specs.State.{State}
-use Rattle.mr_replica.specs.declared.event.Event.{Event}
-use Rattle.mr_replica.specs.declared.event.Reply.{Reply}
-use Rattle.mr_replica.specs.declared.refusal.Refusal.{Refusal}
-use Rattle.mr_replica.specs.declared.refusal.Refusal.TheVariants.{OutOfMemory}
 use Rattle.mr_replica.specs.Growing.{admitted}
-use Rattle.mr_replica.proofs.Replaying.{step_log}
-use Rattle.mr_kept.specs.Entries.{notes_of}
-use Rattle.mr_kept.specs.Kept.{IsKept, issued_of, kept_of, nothing_waits, notes_waiting, replica_of, waiting}
-use Rattle.mr_kept.specs.declared.fault.KeptFault.{KeptFault}
-use Rattle.mr_kept.specs.declared.journaled.Journaled.{Journaled}
-use Rattle.mr_kept.proofs.EntryLemmas.{events_append, notes_append}
-use Rattle.mr_kept.proofs.OpenLemmas.{no_note_waits}
 use Rattle.mr_kept.proofs.RunLemmas.{batch_notes, batch_tells}
-use Rattle.mr_threads.specs.Exchange.{Replays}
-use Rattle.mr_node.specs.Machine.{admitted_of}
-use Rattle.std.proofs.lemmas.List.{append-nil}
-use Rattle.mr_kept_node.specs.Keeping.{entries_with}
-use Rattle.mr_kept_node.specs.Machine.{Kept, Declined, Stopped, Takes, TakesBy}
-use Rattle.mr_kept_node.specs.Node.{Passed, log_of}
-use Rattle.mr_kept_node.specs.declared.machine.KeptMachine.{KeptMachine}
 use Rattle.mr_kept_node.specs.inner.Telling.{turned_same}
 
 -- a letter, who sent it, and its answer

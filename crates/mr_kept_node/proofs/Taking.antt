@@ -1,36 +1,13 @@
 -- One letter: what the event and the commit come to.
 use Rattle.std.proofs.Common.{◌≡◌, ◌≢◌, ◌⊎◌, ⊎_elim, inl, inr, ℕ, ◌≤◌, Bool, true, false, List, [], ◌∷◌, ◌++◌, length, drop, Option, Some, None, Result, Ok, Err, refl, sym, ap, subst, ◌∙◌}
-use Rattle.std.specs.Prelude.{IsTrue, is_some, map}
-use Rattle.std.proofs.lemmas.Bool.{false≢true, leb-true}
-use Rattle.std.proofs.lemmas.List.{drop-append-le}
-use Rattle.mr_forms.specs.Known.{Form}
-use Rattle.mr_journal.specs.Device.{LeavesOnly}
-use Rattle.mr_journal.specs.Format.{Stands}
-use Rattle.mr_journal.specs.Journal.{device_of, has_failed as journal_failed}
-use Rattle.mr_entry.specs.Head.{HeadParts}
-use Rattle.mr_entry.specs.Note.{NoteParts}
-use Rattle.mr_entry.specs.Spelling.{entry_bytes}
-use Rattle.mr_entry.specs.declared.entry.Entry.{Entry}
-use Rattle.mr_replica.specs.State.{State}
+use Rattle.mr_kept_node.proofs.Names.{Asked, Commits, Entry, Event, Failed, Form, Goes, HasLog, HeadParts, IsKept, IsOf, IsTrue, Journaled, Kept, KeptFault}
+use Rattle.mr_kept_node.proofs.Names.{KeptMachine, LeavesLog, LeavesOnly, NoteParts, OutOfMemory, Refusal, Reply, Stands, State, StaysBack, TakesBy, Turned}
+use Rattle.mr_kept_node.proofs.Names.{batch_entries, device_of, device_under, drop-append-le, entries_waiting, entries_with, entry_bytes, false≢true, head_of}
+use Rattle.mr_kept_node.proofs.Names.{head_on, is_some, issued_of, journal_of, kept_of, kept_on, leaving, leb-true, map, notes_of, notes_waiting}
+use Rattle.mr_kept_node.proofs.Names.{nothing_waits, refusal_of, replica_of, step_log, step_setting, waiting}
+use Rattle.mr_journal.specs.Journal.{has_failed as journal_failed}
 use Rattle.mr_replica.specs.Step.{Steps}
-use Rattle.mr_replica.specs.declared.event.Event.{Event}
-use Rattle.mr_replica.specs.declared.event.Reply.{Reply}
-use Rattle.mr_replica.specs.declared.refusal.Refusal.{Refusal}
-use Rattle.mr_replica.specs.declared.refusal.Refusal.TheVariants.{OutOfMemory}
-use Rattle.mr_replica.proofs.Replaying.{step_log, step_setting}
-use Rattle.mr_kept.specs.Entries.{batch_entries, notes_of}
 use Rattle.mr_kept.specs.Commit.{IsUncommitted}
-use Rattle.mr_kept.specs.Kept.{IsKept, StaysBack, entries_waiting, head_of, issued_of, journal_of, kept_of, leaving, nothing_waits, notes_waiting, replica_of, waiting}
-use Rattle.mr_kept.specs.Whole.{HasLog, IsOf}
-use Rattle.mr_kept.specs.declared.fault.KeptFault.{KeptFault}
-use Rattle.mr_kept.specs.declared.fault.KeptFault.TheVariants.{Failed}
-use Rattle.mr_kept.specs.declared.journaled.Journaled.{Journaled}
-use Rattle.mr_kept.proofs.KeptLemmas.{kept_on}
-use Rattle.mr_kept.proofs.LeftLemmas.{head_on}
-use Rattle.mr_kept_node.specs.Keeping.{Commits, LeavesLog, device_under, entries_with}
-use Rattle.mr_kept_node.specs.Letter.{Asked, Turned, refusal_of}
-use Rattle.mr_kept_node.specs.Machine.{Goes, Kept, TakesBy}
-use Rattle.mr_kept_node.specs.declared.machine.KeptMachine.{KeptMachine}
 
 module _ {K D V : Type 0} (form : Form K) (old mid : Journaled K D V) (letter : Event) (reply : Reply) (asked : Asked form old letter reply mid) where
   -- the letter is the last of the log

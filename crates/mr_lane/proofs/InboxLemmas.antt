@@ -1,16 +1,10 @@
 -- Each step keeps the rule of the inbox.
 use Rattle.std.proofs.Common.{◌≡◌, ◌≢◌, ℕ, ◌<◌, ◌≤◌, ◌==◌, Bool, true, true≢false, cond, List, [], ◌∷◌, ◌++◌, length, set, sym, refl, ap, ◌∙◌, subst, ⊎_elim, append_assoc, arith}
-use Rattle.std.proofs.lemmas.List.{append-nil}
-use Rattle.std.proofs.lemmas.Bool.{eqb-true}
+use Rattle.mr_lane.proofs.Names.{AccountsForAll, DeliversInOrder, Forks, InboxSight, KnowsItsPart, Learns, Merges, Note, Piece, Pops, Pushes, append-nil}
+use Rattle.mr_lane.proofs.Names.{at_set, eqb-true, pieces_by, sender_number, sender_sight, spent_sight, taker_sight, with_heard, with_sender, with_sent}
+use Rattle.mr_lane.proofs.Names.{with_taken}
 use mathlib.Core.Option.{Option, none, some, some-ne-none, some-injective}
 use lib.ListN.{get_elem?}
-use Rattle.crossbeam_queue.specs.Fifo.{Pushes, Pops, Forks, Merges, Learns}
-use Rattle.crossbeam_queue.proofs.Lists.{at_set}
-use Rattle.mr_lane.specs.declared.piece.Piece.{Piece}
-use Rattle.mr_lane.specs.declared.note.Note.{Note}
-use Rattle.mr_lane.specs.declared.inbox_rule.InboxSight.{InboxSight}
-use Rattle.mr_lane.specs.Note.{pieces_by, sender_number}
-use Rattle.mr_lane.specs.inner.InboxRule.{taker_sight, sender_sight, spent_sight, with_sender, with_heard, with_sent, with_taken, KnowsItsPart, DeliversInOrder, AccountsForAll}
 use Rattle.mr_lane.proofs.NoteLemmas.{pieces_by-append}
 use Rattle.mr_lane.proofs.SightLemmas.{AllSights, all_set, only_one, snoc_cases}
 use Rattle.mr_lane.proofs.UpdateLemmas.{but, but-here, but-else, but-same}

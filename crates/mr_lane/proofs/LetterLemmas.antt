@@ -1,11 +1,7 @@
 -- The letters of one sender among notes of all.
 use Rattle.std.proofs.Common.{◌≡◌, true, List, [], ◌∷◌, sym, refl, ap, ◌∙◌, arith}
-use Rattle.mr_lane.specs.declared.note.Sender.{Sender}
-use Rattle.mr_lane.specs.declared.note.Note.{Note}
-use Rattle.mr_lane.specs.Piece.{pieces, items_of}
-use Rattle.mr_lane.specs.Note.{sender_number, pieces_by}
+use Rattle.mr_lane.proofs.Names.{Note, PostView, Sender, items_of, pieces, pieces_by, sender_number}
 use Rattle.mr_lane.specs.Letters.{letters_in, letters_by}
-use Rattle.mr_lane.specs.Post.{PostView}
 use Rattle.mr_lane.specs.Inbox.{IsAllOf}
 use Rattle.mr_lane.proofs.PieceLemmas.{items_of-pieces}
 

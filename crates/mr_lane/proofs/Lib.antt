@@ -1,3 +1,4 @@
+pub mod Names
 pub mod InboxLemmas
 pub mod LetterLemmas
 pub mod NoteLemmas

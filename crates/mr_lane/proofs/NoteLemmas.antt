@@ -1,15 +1,9 @@
 -- What each sender sent among notes of all, and whether it has finished.
 use Rattle.std.proofs.Common.{◌≡◌, ℕ, ◌==◌, ◌||◌, ◌&&◌, Bool, true, false, true≢false, List, [], ◌∷◌, ◌++◌, sym, refl, ap, ◌∙◌, arith}
-use Rattle.std.proofs.lemmas.Bool.{and_parts}
-use Rattle.mr_lane.specs.declared.piece.Piece.{Piece}
-use Rattle.mr_lane.specs.declared.piece.Piece.TheVariants.{Item, End}
-use Rattle.mr_lane.specs.declared.note.Sender.{Sender}
+use Rattle.mr_lane.proofs.Names.{AreMarksOf, End, Item, Note, Piece, Sender, and_parts, has_end, has_finished, have_all_finished, pieces, pieces_by}
+use Rattle.mr_lane.proofs.Names.{sender_number}
 use Rattle.mr_lane.specs.declared.note.Sender.TheVariants.{User, FirstLink, SecondLink}
-use Rattle.mr_lane.specs.declared.note.Note.{Note}
 use Rattle.mr_lane.specs.declared.arrival.Marks.{Marks}
-use Rattle.mr_lane.specs.Piece.{pieces, has_end}
-use Rattle.mr_lane.specs.Note.{pieces_by, sender_number}
-use Rattle.mr_lane.specs.Desk.{has_finished, have_all_finished, AreMarksOf}
 use Rattle.mr_lane.specs.inner.Desk.{with_mark}
 
 or-false : (b : Bool) → (b || false) ≡ b

@@ -1,9 +1,6 @@
 -- Lists of pieces: items, and the end mark last.
 use Rattle.std.proofs.Common.{◌≡◌, ℕ, suc, Bool, true, false, true≢false, List, [], ◌∷◌, ◌++◌, length, sym, refl, ap, ◌∙◌, arith}
-use Rattle.std.proofs.lemmas.List.{append-nil}
-use Rattle.mr_lane.specs.declared.piece.Piece.{Piece}
-use Rattle.mr_lane.specs.declared.piece.Piece.TheVariants.{Item, End}
-use Rattle.mr_lane.specs.Piece.{pieces, items_of}
+use Rattle.mr_lane.proofs.Names.{End, Item, Piece, append-nil, items_of, pieces}
 use Rattle.mr_lane.specs.inner.Tap.{EndsWithWaiting}
 
 module _ {T : Type 0} where

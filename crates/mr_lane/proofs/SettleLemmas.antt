@@ -1,11 +1,6 @@
 -- What a desk learns of its three posts, once they are together.
 use Rattle.std.proofs.Common.{◌≡◌, ◌++◌, ◌∷◌, [], List, Bool, true, ap, ◌∙◌, refl, subst}
-use Rattle.mr_lane.specs.declared.note.Note.{Note}
-use Rattle.mr_lane.specs.declared.inbox_rule.InboxSight.{InboxSight}
-use Rattle.mr_lane.specs.Piece.{pieces}
-use Rattle.mr_lane.specs.Note.{pieces_by}
-use Rattle.mr_lane.specs.inner.InboxRule.{taker_sight, with_heard, AccountsForAll}
-use Rattle.mr_lane.specs.Desk.{have_all_finished}
+use Rattle.mr_lane.proofs.Names.{AccountsForAll, InboxSight, Note, have_all_finished, pieces, pieces_by, taker_sight, with_heard}
 use Rattle.mr_lane.proofs.NoteLemmas.{is_all, each_finished}
 
 module _ {T : Type 0} where

@@ -1,10 +1,7 @@
 -- Each step keeps the rule of the tap.
 use Rattle.std.proofs.Common.{◌≡◌, ◌≢◌, ℕ, Bool, true, false, true≢false, List, [], ◌∷◌, ◌++◌, length, set, sym, refl, ap, ◌∙◌, ⊎_elim, append_assoc, arith}
-use Rattle.crossbeam_queue.specs.Fifo.{Pushes, Pops, Forks, Merges, Learns}
-use Rattle.crossbeam_queue.proofs.Lists.{at_set}
-use Rattle.mr_lane.specs.declared.piece.Piece.{Piece}
+use Rattle.mr_lane.proofs.Names.{Forks, Learns, Merges, Piece, Pops, Pushes, at_set, pieces}
 use Rattle.mr_lane.specs.declared.tap_rule.TapSight.{TapSight}
-use Rattle.mr_lane.specs.Piece.{pieces}
 use Rattle.mr_lane.specs.inner.TapRule.{tap_sight, KnowsItsSide, FlowsInOrder}
 use Rattle.mr_lane.proofs.PieceLemmas.{begins_of}
 use Rattle.mr_lane.proofs.SightLemmas.{AllSights, all_set, only_one, snoc_cases}

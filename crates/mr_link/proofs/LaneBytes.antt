@@ -1,11 +1,7 @@
 -- What passes the lanes of a link.
 use Rattle.std.proofs.Common.{◌≡◌, ◌<◌, ◌==◌, ℕ, Bool, false, length, arith, List, [], ◌∷◌, ◌++◌, Option, Some, None, ap, refl, sym, ◌∙◌, append-nil}
-use Rattle.mr_link.specs.declared.chunk.Chunk.{Chunk}
-use Rattle.std.proofs.lemmas.Bool.{false≢true}
+use Rattle.mr_link.proofs.Names.{Chunk, IsBeginning, LaneEnd, LinkView, SameEnd, TapEnd, and_then, bytes_in, false≢true, with_item, with_received, with_sent}
 use Rattle.std.proofs.lemmas.Grind.{flat_map-append}
-use Rattle.mr_lane.specs.Tap.{TapEnd, with_item}
-use Rattle.mr_link.specs.Link.{LinkView, and_then, with_sent, with_received}
-use Rattle.mr_link.specs.LaneLink.{LaneEnd, IsBeginning, SameEnd, bytes_in}
 
 -- an end over these lanes
 abbrev pub end_over : TapEnd Chunk → TapEnd Chunk → ℕ → Bool → LaneEnd

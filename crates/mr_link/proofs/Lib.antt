@@ -1,3 +1,4 @@
+pub mod Names
 pub mod Passing
 pub mod Reading
 pub mod LaneBytes

@@ -1,12 +1,8 @@
 -- Frames that pass a link, one behind the other.
 use Rattle.std.proofs.Common.{◌≡◌, ◌+◌, ◌++◌, ℕ, List, [], ◌∷◌, Option, Some, None, IsSome, refl, sym, ap, subst, ◌∙◌, append_assoc, append-nil}
-use Rattle.std.specs.Option.{option_map}
-use Rattle.mr_wire.specs.declared.frame.Frame.{Frame}
-use Rattle.mr_wire.specs.Grammar.{Spells}
+use Rattle.mr_link.proofs.Names.{Frame, GoesDown, IsBad, IsSpoilt, LinkView, Passes, PassesWell, Spells, WireView, and_then, bytes_of, frames_whole}
+use Rattle.mr_link.proofs.Names.{option_map, with_down, with_received, with_sent}
 use Rattle.mr_frames.specs.Stream.{Begins, AreFrames}
-use Rattle.mr_frames.proofs.StreamLaws.{frames_whole}
-use Rattle.mr_link.specs.Link.{LinkView, and_then, with_sent, with_received, with_down}
-use Rattle.mr_link.specs.Wire.{WireView, bytes_of, IsBad, Passes, PassesWell, GoesDown, IsSpoilt}
 
 -- bytes after bytes
 and_then-append : (told : Option (List ℕ)) (xs ys : List ℕ) → and_then (and_then told xs) ys ≡ and_then told (xs ++ ys)

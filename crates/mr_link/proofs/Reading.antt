@@ -1,30 +1,22 @@
 -- What a wire's calls come to, by what its link and its reader did.
 use Rattle.std.proofs.Common.{◌≡◌, ◌≢◌, ◌<◌, ◌++◌, ◌↔◌, ℕ, List, [], ◌∷◌, length, Option, Some, None, Result, Ok, Err, IsSome, refl, sym, ap, subst, ◌∙◌, append-nil, arith}
-use Rattle.std.specs.Option.{option_map}
-use Rattle.std.specs.Global.{Vec}
+use Rattle.mr_link.proofs.Names.{Feeds, Frame, Hands, HandsNothing, HandsOn, LinkView, Nexts, PassesWell, ReadsFrame, ReadsPiece, Receives, Sends, Spells}
+use Rattle.mr_link.proofs.Names.{Vec, Wire, WireView, WritesFrame, begins_more, held_bytes, option_map, unread_in, wire_of}
 use Rattle.mr_wire.specs.declared.fault.WireFault.{WireFault}
 use Rattle.mr_wire.specs.declared.fault.WireFault.TheVariants.{Truncated}
 use Rattle.mr_wire.specs.declared.fault.WireFault.TheVariants as wire
-use Rattle.mr_wire.specs.declared.frame.Frame.{Frame}
 use Rattle.mr_wire.specs.Decoding.{decoded}
 use Rattle.mr_wire.specs.Encoding.{Encodes}
 use Rattle.mr_wire.specs.FrameSpelling.{rest_bytes}
 use Rattle.mr_wire.specs.declared.decoding.TheConstants.{MAX_REST_BYTES}
-use Rattle.mr_wire.specs.Grammar.{Spells}
-use Rattle.mr_frames.specs.Reader.{Feeds, Nexts}
 use Rattle.mr_frames.specs.Calls.{IsDrained}
 use Rattle.mr_frames.specs.declared.fault.FrameFault.{FrameFault}
 use Rattle.mr_frames.specs.declared.fault.FrameFault.TheVariants as reading
-use Rattle.mr_frames.proofs.StreamLaws.{begins_more}
-use Rattle.mr_link.specs.Link.{LinkView, Sends, Receives}
 use Rattle.mr_link.specs.inner.Snag.{snag_of_reader, snag_of_link, snag_of_encoding}
-use Rattle.mr_link.specs.Wire.{WireView, held_bytes, unread_in, wire_of, PassesWell, ReadsFrame, WritesFrame}
-use Rattle.mr_link.specs.inner.Wire.{ReadsPiece, HandsNothing, HandsOn, Hands}
 use Rattle.mr_link.specs.declared.link.LinkFault.{LinkFault}
 use Rattle.mr_link.specs.declared.link.LinkFault.TheVariants as link
 use Rattle.mr_link.specs.declared.snag.Snag.{Snag}
 use Rattle.mr_link.specs.declared.snag.Snag.TheVariants as snag
-use Rattle.mr_link.specs.declared.wire.Wire.{Wire}
 use Rattle.mr_link.proofs.Passing.{well_on, down_on, spoilt_on, passes_none, passes_same, passes_bytes, down_now, frame_sent, frame_read, spoilt_now}
 
 -- ---- what is unread

@@ -1,14 +1,10 @@
 -- the text of fragments, one after the other
 use Rattle.std.proofs.Common.{◌≡◌, ℕ, ◌+◌, ◌-◌, ◌<◌, ◌≤◌, List, [], ◌∷◌, ◌++◌, length, take, drop, get_or, sym, ap, ◌∙◌, arith, append_assoc}
-use Rattle.std.specs.List.{flat_map}
-use Rattle.std.proofs.lemmas.List.Elements.{All-weaker}
-use Rattle.std.proofs.lemmas.List.{drop-take, length-drop, length-take, take_more, drop_at}
+use Rattle.mr_lookup.proofs.Names.{All-weaker, ConciseFragment, Form, Part, drop-take, drop_at, flat_map, fragment_text, knowledge_text, length-drop}
+use Rattle.mr_lookup.proofs.Names.{length-take, sha256, take_more}
 use Rattle.std.proofs.lemmas.Grind.{flat_map-append}
-use Rattle.sha2.specs.Sha256.{sha256}
-use Rattle.mr_forms.specs.Known.{Form, Part}
 use Rattle.mr_forms.specs.ByMeaning.{IsByMeaning}
 use Rattle.mr_forms.specs.Parts.{ArePartsThat}
-use Rattle.mr_concise.specs.Fragments.{ConciseFragment, fragment_text, knowledge_text}
 use Rattle.mr_replica.specs.Fragments.{AreFragmentsOf}
 use Rattle.mr_replica.proofs.FragmentLemmas.{one_text}
 use Rattle.mr_lookup.specs.Digest.{IsDigestOf}

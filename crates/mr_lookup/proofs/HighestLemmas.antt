@@ -1,22 +1,13 @@
 -- the highest counter of an author, fragment by fragment
 use Rattle.std.proofs.Common.{◌≡◌, ◌⊎◌, ⊎_elim, ℕ, ◌+◌, ◌<◌, ◌≤◌, max, Bool, true, false, List, [], ◌∷◌, ◌++◌, length, take, get_or, Option, Some, None, refl, sym, ap, subst, ◌∙◌, arith}
-use Rattle.std.specs.Prelude.{◌||◌, ◌≢◌, MatchOption}
-use Rattle.std.specs.List.{list_any}
+use Rattle.mr_lookup.proofs.Names.{AreSame, ConciseFragment, HasItems, HasNone, IsHighest, IsHighestFound, MatchOption, Name, Pairs, all_covered, and_from}
+use Rattle.mr_lookup.proofs.Names.{and_parts, and_right, covered, has_item, list_any, list_any-append, name_eq, name_eq-itself, or_cases, or_from, or_left}
+use Rattle.mr_lookup.proofs.Names.{or_right, take_more, vector_has, ◌||◌, ◌≢◌}
 use Rattle.std.proofs.Math.Bool.{or-false}
-use Rattle.std.proofs.lemmas.Bool.{and_from, and_parts, and_right, or_cases, or_from, or_left, or_right}
-use Rattle.std.proofs.lemmas.List.{take_more}
-use Rattle.std.proofs.lemmas.List.Folds.{list_any-append}
-use Rattle.mr_version.specs.Name.{Name, name_eq}
 use Rattle.mr_forms.specs.declared.fragment.ItemSet.{ItemSet}
 use Rattle.mr_forms.specs.declared.fragment.ItemSet.TheVariants as items
-use Rattle.mr_forms.specs.Covered.{HasItems, all_covered, covered, has_item}
-use Rattle.mr_forms.specs.Known.{AreSame, Pairs}
-use Rattle.mr_forms.proofs.PairLemmas.{name_eq-itself}
 use Rattle.mr_forms.specs.Runs.{HasNoneOf, of_author}
-use Rattle.mr_concise.specs.Fragments.{ConciseFragment}
 use Rattle.mr_concise.specs.Last.{IsLast}
-use Rattle.mr_concise.specs.Vector.{vector_has}
-use Rattle.mr_lookup.specs.Highest.{HasNone, IsHighest, IsHighestFound}
 use Rattle.mr_lookup.specs.inner.Highest.{higher_of}
 
 -- what is the highest counter of a knowledge is that of each that knows the same

@@ -1,24 +1,12 @@
 -- The versions of an item that a log tells: how the list of them comes about event by event, and that it is the only one.
 use Rattle.std.proofs.Common.{◌≡◌, ◌⊎◌, inl, inr, ⊎_elim, ℕ, ◌+◌, ◌<◌, Bool, true, false, cond, List, [], ◌∷◌, ◌++◌, All, AllPairs, Contains, fold, take, length, get_or, Option, Some, None, length-append, refl, ap, sym, subst, ◌∙◌, arith}
-use Rattle.std.specs.Prelude.{◌&&◌, ◌||◌, ◌≢◌, not, count_by}
-use Rattle.std.specs.Option.{option_map}
-use Rattle.std.proofs.lemmas.List.Elements.{All-contains, All-nil, All-push, All-weaker}
-use Rattle.std.proofs.lemmas.List.Folds.{Any-from_list_any, fold_along, list_any-append}
+use Rattle.mr_lookup.proofs.Names.{All-contains, All-nil, All-push, All-weaker, Any-from_list_any, Create, Edit, Event, IsHistory, Item, Mail, Name, Receive}
+use Rattle.mr_lookup.proofs.Names.{Record, TellsEarlier, TellsFirst, TellsOf, TellsOf.created, TellsOf.edited, TellsOf.received, TellsVersion, count_by}
+use Rattle.mr_lookup.proofs.Names.{fold_along, is_in, is_of_item, is_told, issued_next, issued_with, issues, list_any-append, name_eq, name_eq-itself}
+use Rattle.mr_lookup.proofs.Names.{next_name, not, option_map, same_name, told_more, version_in, version_told_by, ◌&&◌, ◌||◌, ◌≢◌}
 use Rattle.std.proofs.lemmas.List.Quantifiers.{all_pairs_push}
 use Rattle.std.proofs.lemmas.Option.{same_Some, some_pair_parts}
-use Rattle.mr_version.specs.Name.{Name, name_eq}
-use Rattle.mr_forms.specs.inner.Fresh.{same_name}
-use Rattle.mr_forms.proofs.PairLemmas.{name_eq-itself}
-use Rattle.mr_mail.specs.Mail.{Mail}
 use Rattle.mr_wire.specs.declared.frame.Body.{Body}
-use Rattle.mr_wire.specs.declared.frame.Body.TheVariants.{Item}
-use Rattle.mr_wire.specs.declared.frame.Frame.TheVariants.{Record}
-use Rattle.mr_replica.specs.declared.event.Event.{Event}
-use Rattle.mr_replica.specs.declared.event.Event.TheVariants.{Create, Edit, Receive}
-use Rattle.mr_lookup.specs.Told.{issued_with}
-use Rattle.mr_lookup.specs.Versions.{issued_next, next_name, version_in, version_told_by}
-use Rattle.mr_lookup.specs.History.{IsHistory, TellsEarlier, TellsFirst, TellsOf, TellsOf.created, TellsOf.edited, TellsOf.received, TellsVersion, is_told, issues}
-use Rattle.mr_lookup.specs.inner.History.{is_in, is_of_item, told_more}
 use Rattle.mr_lookup.proofs.ListLemmas.{beginnings, ends, one_list, places, split_longer}
 use Rattle.mr_lookup.proofs.ToldLemmas.{taken_one}
 

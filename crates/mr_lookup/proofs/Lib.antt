@@ -1,4 +1,5 @@
 -- lemmas
+pub mod Names
 pub mod ListLemmas
 pub mod HighestLemmas
 pub mod DigestLemmas

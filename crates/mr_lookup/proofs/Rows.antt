@@ -1,16 +1,8 @@
 -- worked rows that take a proof
 use Rattle.std.proofs.Common.{◌≡◌, ◌≤◌, ℕ, List, [], ◌∷◌, ◌++◌, Some, get_or, append_assoc, append-nil, refl, ap, sym, subst, arith}
-use Rattle.std.specs.Prelude.{◌≢◌, count_by}
-use Rattle.mr_version.specs.Name.{Name}
-use Rattle.mr_mail.specs.Mail.{Mail}
-use Rattle.mr_wire.specs.declared.frame.Body.TheVariants.{Item}
-use Rattle.mr_wire.specs.declared.frame.Frame.TheVariants.{Record}
+use Rattle.mr_lookup.proofs.Names.{Create, Edit, Event, IsHistory, IsNewest, Item, Mail, Name, Receive, Record, count_by, issues, told_more, version_told_by}
+use Rattle.mr_lookup.proofs.Names.{◌≢◌}
 use Rattle.mr_wire.specs.declared.frame.Header.{Header}
-use Rattle.mr_replica.specs.declared.event.Event.{Event}
-use Rattle.mr_replica.specs.declared.event.Event.TheVariants.{Create, Edit, Receive}
-use Rattle.mr_lookup.specs.History.{IsHistory, issues}
-use Rattle.mr_lookup.specs.inner.History.{told_more}
-use Rattle.mr_lookup.specs.Versions.{IsNewest, version_told_by}
 use Rattle.mr_lookup.proofs.HistoryLemmas.{none_yet, one_event, one_history}
 use Rattle.mr_lookup.proofs.VersionLemmas.{found}
 

@@ -1,19 +1,11 @@
 -- what events tell of items, event by event
 use Rattle.std.proofs.Common.{◌≡◌, ℕ, ◌+◌, ◌<◌, ◌≤◌, Bool, true, false, cond, List, [], ◌∷◌, ◌++◌, take, length, get_or, Option, Some, None, append_assoc, refl, ap, sym, subst, ◌∙◌, arith}
-use Rattle.std.specs.List.{fold}
-use Rattle.std.specs.Option.{option_or}
-use Rattle.std.specs.Prelude.{◌&&◌, not, is_some}
+use Rattle.mr_lookup.proofs.Names.{Create, Edit, Event, HasFirstTold, IsVersion, Mail, Name, Notes, NotesOfItems, append-nil, first_told, fold, is_some}
+use Rattle.mr_lookup.proofs.Names.{issued_with, message_at, name_cmp, name_eq, not, option_or, own_name, same_name, take_more, told_after, told_by, told_with}
+use Rattle.mr_lookup.proofs.Names.{◌&&◌}
 use Rattle.std.specs.Ordering.{is_eq}
-use Rattle.std.proofs.lemmas.List.{append-nil, take_more}
 use Rattle.std.proofs.lemmas.List.Sums.{fold-append}
-use Rattle.mr_version.specs.Name.{Name, IsVersion, name_cmp, name_eq}
-use Rattle.mr_forms.specs.inner.Fresh.{same_name}
 use Rattle.mr_forms.proofs.SetLemmas.{name_eq-symmetric}
-use Rattle.mr_mail.specs.Mail.{Mail}
-use Rattle.mr_replica.specs.declared.event.Event.{Event}
-use Rattle.mr_replica.specs.declared.event.Event.TheVariants.{Create, Edit}
-use Rattle.mr_lookup.specs.Told.{HasFirstTold, first_told, issued_with, message_at, own_name, told_after, told_by}
-use Rattle.mr_lookup.specs.inner.Told.{Notes, NotesOfItems, told_with}
 
 -- no event issues two versions
 pub issued_one : (issued : ℕ) (e : Event) → issued_with issued e ≤ issued + 1

@@ -1,15 +1,7 @@
 -- the newest of the versions that a log tells of an author, version by version
 use Rattle.std.proofs.Common.{◌≡◌, ◌⊎◌, inl, inr, ⊎_elim, ℕ, ◌<◌, ◌≤◌, Bool, true, false, cond, List, [], ◌∷◌, ◌++◌, Option, Some, None, append_assoc, refl, ap, sym, subst, ◌∙◌, arith, eqb-true, ltb-true, ltb-false}
-use Rattle.std.specs.Option.{option_or}
-use Rattle.std.specs.Prelude.{◌&&◌, ◌==◌, nat_lt}
-use Rattle.std.proofs.lemmas.Bool.{eqb-false}
-use Rattle.std.proofs.lemmas.List.{append-nil}
-use Rattle.mr_version.specs.Name.{Name, name_eq}
-use Rattle.mr_forms.specs.inner.Fresh.{same_name}
-use Rattle.mr_forms.proofs.PairLemmas.{name_eq-itself}
-use Rattle.mr_mail.specs.Mail.{Mail}
-use Rattle.mr_lookup.specs.Told.{message_at}
-use Rattle.mr_lookup.specs.Versions.{IsNewest, IsNewestFound, TellsNone}
+use Rattle.mr_lookup.proofs.Names.{IsNewest, IsNewestFound, Mail, Name, TellsNone, append-nil, eqb-false, message_at, name_eq, name_eq-itself, nat_lt}
+use Rattle.mr_lookup.proofs.Names.{option_or, same_name, ◌&&◌, ◌==◌}
 use Rattle.mr_lookup.specs.inner.Versions.{newer_of}
 use Rattle.mr_lookup.proofs.ToldLemmas.{message_at-append}
 

@@ -1,9 +1,6 @@
 -- where a mail is deleted, and where it is new
 use Rattle.std.proofs.Common.{◌≡◌, ◌≢◌, ◌↔◌, Bool, true, false, Option, Some, None, IsSome, Result, Ok, Err, IfOk, refl, sym, ap, subst}
-use Rattle.std.specs.Prelude.{if◌then◌else◌, is_some, [], ◌∷◌}
-use Rattle.std.proofs.lemmas.Bool.{false≢true}
-use Rattle.mr_maildir.specs.View.{ViewParts, view_eq, is_nowhere}
-use Rattle.mr_maildir.specs.Merging.{merged_view, over}
+use Rattle.mr_maildir.proofs.Names.{ViewParts, [], false≢true, if◌then◌else◌, is_nowhere, is_some, merged_view, over, view_eq, ◌∷◌}
 use Rattle.mr_maildir.specs.Act.{standing, is_left, following, settled, act_on_both, act_on_seen, act_on_unseen, act_of_standing, act_of}
 use Rattle.mr_maildir.specs.declared.act.Act.{Act}
 use Rattle.mr_maildir.specs.declared.act.Act.TheVariants.{Agree, Create, Edit, Delete, Follow, Remove}

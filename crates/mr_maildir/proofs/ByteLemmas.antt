@@ -1,10 +1,6 @@
 -- texts without a byte, and the first place of one
 use Rattle.std.proofs.Common.{◌≡◌, ◌≢◌, ℕ, ◌<◌, Bool, true, not, List, [], ◌∷◌, ◌++◌, length, get_or, refl, sym, ap, ◌∙◌}
-use Rattle.std.specs.Prelude.{◌==◌}
-use Rattle.std.specs.List.{list_all}
-use Rattle.std.proofs.lemmas.Bool.{and_parts, false≢true, not_from_false, ne_eqb, eq-eqb}
-use Rattle.std.proofs.lemmas.List.Sums.{list_all-from_AllPass}
-use Rattle.std.proofs.lemmas.List.Elements.{All-from_get_or}
+use Rattle.mr_maildir.proofs.Names.{All-from_get_or, and_parts, eq-eqb, false≢true, list_all, list_all-from_AllPass, ne_eqb, not_from_false, ◌==◌}
 
 -- no place has the byte
 abbrev pub lacks : ℕ → List ℕ → Bool

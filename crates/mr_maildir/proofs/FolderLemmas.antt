@@ -1,16 +1,9 @@
 -- folders' names and labels
 use Rattle.std.proofs.Common.{◌≡◌, ℕ, ◌<◌, ◌≤◌, Bool, true, false, not, cond, ◌&&◌, ◌||◌, List, [], ◌∷◌, ◌++◌, length, Option, Some, None, refl, sym, ap, ◌∙◌, inl, inr, lit<, arith}
-use Rattle.std.specs.Prelude.{◌==◌, nat_le, slice_index, codes, take}
-use Rattle.std.specs.List.{list_all}
-use Rattle.std.proofs.lemmas.Bool.{and_parts, and_from, false≢true, eqb-true, leb-true, le-leb, or_cases, cases_lt}
-use Rattle.std.proofs.lemmas.List.{length-take-le, get_or-take, get_or_past}
-use Rattle.std.proofs.lemmas.List.Sums.{AllPass-from_list_all}
-use Rattle.hex.specs.Hex.{encode_lower, lower_digits}
-use Rattle.hex.proofs.HexLemmas.{length-encode_with}
-use Rattle.mr_mail.proofs.FlagLemmas.{passes-below}
-use Rattle.mr_mail.specs.Label.{is_label, is_label_byte, text_eq}
-use Rattle.mr_maildir.specs.Folder.{is_kept_name, is_part_name, is_plain, digest_label, label_of, is_safe_folder, is_name_for, folder_name}
-use Rattle.mr_maildir.specs.Path.{is_path_byte, IsPathPart}
+use Rattle.mr_maildir.proofs.Names.{AllPass-from_list_all, IsPathPart, and_from, and_parts, cases_lt, codes, digest_label, encode_lower, eqb-true, false≢true}
+use Rattle.mr_maildir.proofs.Names.{folder_name, get_or-take, get_or_past, is_kept_name, is_label, is_label_byte, is_name_for, is_part_name, is_path_byte}
+use Rattle.mr_maildir.proofs.Names.{is_plain, is_safe_folder, label_of, le-leb, leb-true, length-encode_with, length-take-le, list_all, lower_digits, nat_le}
+use Rattle.mr_maildir.proofs.Names.{or_cases, passes-below, slice_index, take, text_eq, ◌==◌}
 use Rattle.mr_maildir.proofs.PathLemmas.{each_digit}
 use Rattle.mr_maildir.proofs.ViewLemmas.{same_text}
 

@@ -1,10 +1,7 @@
 -- lines of a header
 use Rattle.std.proofs.Common.{◌≡◌, ℕ, ◌+◌, ◌≤◌, Bool, true, false, not, cond, List, [], ◌∷◌, ◌++◌, length, take, drop, map, Option, Some, None, ltb, refl, sym, ap, ◌∙◌, inl, inr, lit≤, arith}
-use Rattle.std.proofs.lemmas.Bool.{cases_Bool, ltb-false}
-use Rattle.std.specs.Borrow.{Bor}
-use Rattle.std.specs.List.{flat_map, prefix_len, position_or_len}
-use Rattle.std.proofs.lemmas.List.{take-map, drop-map}
-use Rattle.mr_maildir.specs.Header.{begins, is_folded, without_return, from_first, first_group, value_in}
+use Rattle.mr_maildir.proofs.Names.{Bor, begins, cases_Bool, drop-map, first_group, flat_map, from_first, is_folded, ltb-false, position_or_len, prefix_len}
+use Rattle.mr_maildir.proofs.Names.{take-map, value_in, without_return}
 
 -- tests of what is made of elements
 prefix-map : {X Y : Type 0} (p : Y → Bool) (f : X → Y) (xs : List X) → prefix_len (λ x. p (f x)) xs ≡ prefix_len p (map f xs)

@@ -1,17 +1,12 @@
 -- names of folders as paths, and back
 use Rattle.std.proofs.Common.{◌≡◌, ℕ, ◌<◌, Bool, true, false, not, cond, ◌&&◌, ◌||◌, List, [], ◌∷◌, ◌++◌, length, map, Option, Some, None, IfSome, refl, sym, ap, ◌∙◌, inl, inr, arith}
-use Rattle.std.specs.Prelude.{◌==◌, nat_le, slice_index, codes, option_map}
-use Rattle.std.specs.Borrow.{Bor}
-use Rattle.std.specs.List.{list_all, slice_split, onto_first, join_with_byte, join_by}
-use Rattle.std.proofs.lemmas.Bool.{and_parts, and_from, false≢true, eqb-true, eq-eqb, le-leb, leb-true, not-true, cases_Bool}
+use Rattle.mr_maildir.proofs.Names.{Bor, IsFolderPath, admits, and_from, and_parts, behind_key, cases_Bool, codes, cut_at, dotted_name, eq-eqb, eqb-true}
+use Rattle.mr_maildir.proofs.Names.{false≢true, folder_path, is_kept_name, is_label, is_label_byte, is_level, is_part_name, is_path_byte, is_path_level}
+use Rattle.mr_maildir.proofs.Names.{is_read_level, is_safe_folder, join_by, join_with_byte, label_of, le-leb, leb-true, list_all, name_at, name_for, nat_le}
+use Rattle.mr_maildir.proofs.Names.{not-true, onto_first, option_map, path_of, slice_index, slice_split, text_eq, ◌==◌}
 use Rattle.std.proofs.lemmas.List.Splits.{join_with_byte-slice_split}
-use Rattle.mr_mail.specs.Label.{is_label, is_label_byte, text_eq}
-use Rattle.mr_maildir.specs.Folder.{is_kept_name, is_part_name, label_of, is_safe_folder}
-use Rattle.mr_maildir.specs.Path.{is_path_byte}
-use Rattle.mr_maildir.specs.Layout.{cut_at, is_level, is_path_level, admits, path_of, name_for, folder_path, is_read_level, dotted_name, name_at, IsFolderPath}
 use Rattle.mr_maildir.specs.declared.layout.Layout.{Layout}
 use Rattle.mr_maildir.specs.declared.layout.Layout.TheVariants.{Dots, Plain}
-use Rattle.mr_maildir.specs.Told.{behind_key}
 use Rattle.mr_maildir.proofs.ToldLemmas.{behind-key}
 use Rattle.mr_maildir.proofs.FolderLemmas.{implied, safe_is_part, safe_not_own, label_byte_in_path, label_of-not_own, label_of-not_part, label_of-label}
 use Rattle.mr_maildir.proofs.ViewLemmas.{same_text}

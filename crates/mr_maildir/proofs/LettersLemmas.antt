@@ -1,14 +1,9 @@
 -- flag bytes of flags that pass a test, and letters on a file
 use Rattle.std.proofs.Common.{◌≡◌, ℕ, zero, suc, ◌+◌, ◌<◌, ◌≤◌, lit≤, Bool, true, false, not, cond, ◌&&◌, ◌||◌, List, [], ◌∷◌, ◌++◌, Option, Some, None, is_some, refl, ap, sym, ◌∙◌, arith}
-use Rattle.std.specs.Prelude.{◌==◌, nat_le, filter}
-use Rattle.std.specs.List.{list_all, list_any, range_with_len}
-use Rattle.std.proofs.lemmas.Bool.{and_parts, and_from, eqb-true, leb-true, false≢true}
-use Rattle.std.proofs.lemmas.Map.Views.{any-filter_same}
-use Rattle.mr_mail.specs.Flag.{has_flag}
-use Rattle.mr_mail.specs.declared.flags.Flag.{Flag}
-use Rattle.mr_mail.specs.declared.flags.Flag.TheVariants.{Seen, Answered, Flagged, Draft, Deleted}
-use Rattle.mr_mail.proofs.FlagLemmas.{passes-below}
-use Rattle.mr_maildir.specs.Letters.{flags_where, with_flag_if, has_letter, flags_told, flag_told, tells_flag, is_info_byte, is_there, stays_on, letters_with}
+use Rattle.mr_maildir.proofs.Names.{Answered, Deleted, Draft, Flag, Flagged, Seen, and_from, and_parts, any-filter_same, eqb-true, false≢true, filter}
+use Rattle.mr_maildir.proofs.Names.{flag_told, flags_told, flags_where, has_flag, has_letter, is_info_byte, is_there, leb-true, list_all}
+use Rattle.mr_maildir.specs.Letters.{letters_with}
+use Rattle.mr_maildir.proofs.Names.{list_any, nat_le, passes-below, range_with_len, stays_on, tells_flag, with_flag_if, ◌==◌}
 
 -- the byte of five answers
 abbrev byte_of : Bool → Bool → Bool → Bool → Bool → ℕ

@@ -1,3 +1,4 @@
+pub mod Names
 pub mod ByteLemmas
 pub mod LettersLemmas
 pub mod NameLemmas

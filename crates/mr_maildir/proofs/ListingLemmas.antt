@@ -1,13 +1,9 @@
 -- texts as a list shows them
 use Rattle.std.proofs.Common.{◌≡◌, ℕ, ◌/◌, ◌%◌, ◌<◌, Bool, true, false, not, cond, ◌&&◌, ◌||◌, List, [], ◌∷◌, ◌++◌, map, refl, sym, ap, ◌∙◌, inl, inr, arith, append_assoc}
-use Rattle.std.specs.Prelude.{◌==◌, nat_le}
-use Rattle.std.specs.List.{list_all, flat_map, join_with_byte}
+use Rattle.mr_maildir.proofs.Names.{and_from, and_parts, cases_Bool, encode_utf8_all, eq-eqb, eqb-false, eqb-true, false≢true, flat_map, join_with_byte}
+use Rattle.mr_maildir.proofs.Names.{leb-true, list_all, nat_le, or_cases, passes-below, passes_below, printed_char, printed_chars, spaced, ◌==◌}
 use Rattle.std.specs.Char.{is_control, digit_char}
-use Rattle.std.specs.Str.{encode_utf8_all}
-use Rattle.std.proofs.lemmas.Bool.{and_parts, and_from, or_cases, cases_Bool, eqb-true, eqb-false, eq-eqb, leb-true, false≢true}
 use Rattle.std.proofs.lemmas.Str.{encodes-append}
-use Rattle.mr_mail.proofs.FlagLemmas.{passes_below, passes-below}
-use Rattle.mr_maildir.specs.Listing.{printed_char, printed_chars, spaced}
 
 -- one character more
 pub printed-flat : (cs : List ℕ) → flat_map (λ c. encode_utf8_all (printed_char c)) cs ≡ encode_utf8_all (printed_chars cs)

@@ -1,20 +1,10 @@
 -- what heads say together, label by label and flag by flag
 use Rattle.std.proofs.Common.{◌≡◌, ℕ, zero, suc, ◌<◌, Bool, true, false, not, cond, ◌&&◌, ◌||◌, List, [], ◌∷◌, ◌++◌, refl, sym, ap, ◌∙◌, arith, ◌+◌, get_or, take, append_assoc}
-use Rattle.std.specs.Prelude.{filter, replicate, length}
-use Rattle.std.specs.List.{list_all, list_any, flat_map}
-use Rattle.std.specs.List.Sorted.{IsPermutation, IsStrictlySortedBy}
-use Rattle.std.proofs.lemmas.Bool.{false≢true, cond-true}
-use Rattle.std.proofs.lemmas.List.Elements.{filter_more, filter-append}
-use Rattle.std.proofs.lemmas.List.Folds.{list_any-append}
-use Rattle.std.proofs.lemmas.List.Sorted.{list_any-IsPermutation}
-use Rattle.mr_mail.specs.Flag.{has_flag, flag_eq}
-use Rattle.mr_mail.specs.Label.{text_cmp, text_eq, has_label}
-use Rattle.mr_mail.specs.declared.flags.Flag.{Flag}
-use Rattle.mr_mail.specs.declared.flags.Flag.TheVariants.{Deleted}
-use Rattle.mr_mail.proofs.FlagLemmas.{flags_alike}
-use Rattle.mr_maildir.specs.Letters.{flags_where}
-use Rattle.mr_maildir.specs.View.{ViewParts, IsView, is_gone, view_eq}
-use Rattle.mr_maildir.specs.Merging.{with_say, asked, stays, stays_in, stays_flagged, joined, merged_view, differ}
+use Rattle.mr_maildir.proofs.Names.{Deleted, Flag, IsPermutation, IsStrictlySortedBy, IsView, ViewParts, asked, cond-true, differ, false≢true, filter}
+use Rattle.mr_maildir.proofs.Names.{filter-append, filter_more, flag_eq, flags_alike, flags_where, flat_map, has_flag, has_label, is_gone, length, list_all}
+use Rattle.mr_maildir.proofs.Names.{list_any, list_any-IsPermutation, list_any-append, merged_view, replicate, stays, stays_flagged, stays_in, text_cmp}
+use Rattle.mr_maildir.proofs.Names.{text_eq, view_eq, with_say}
+use Rattle.mr_maildir.specs.Merging.{joined}
 use Rattle.mr_maildir.proofs.LettersLemmas.{has_flag-flags_where, flags_where-le}
 use Rattle.mr_maildir.proofs.ViewLemmas.{same_text, rising-in_order, has-in_order, rising-unique, view_eq-Decides}
 

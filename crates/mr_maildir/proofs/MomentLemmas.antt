@@ -1,16 +1,11 @@
 -- what holds at every moment while the acts of a plan are done, and of the names of the files that they make
 use Rattle.std.proofs.Common.{◌≡◌, ℕ, zero, suc, ◌+◌, ◌<◌, ◌≤◌, Bool, true, false, not, cond, ◌&&◌, ◌||◌, List, [], ◌∷◌, ◌++◌, length, take, Option, Some, None, refl, sym, ap, ◌∙◌, inl, inr, ◌⊎◌, length-append, arith, subst}
-use Rattle.std.specs.Prelude.{◌==◌, nat_le, slice_index}
-use Rattle.std.specs.List.{list_all, list_any, flat_map}
-use Rattle.std.proofs.lemmas.Bool.{and_parts, and_from, or_parts, or_left, or_right, or_cases, false≢true, cases_Bool, not-true, leb-true}
-use Rattle.std.proofs.lemmas.List.Folds.{list_any-append}
-use Rattle.mr_maildir.specs.Letters.{letters_with}
-use Rattle.mr_maildir.specs.File.{FileParts, file_eq, has_file}
-use Rattle.mr_maildir.specs.FileActs.{without, after, makes, takes, Mail, tells, kept_in, own_name, is_taken, name_in, letters_from, is_from_new, put_in, first_seen, standing_in, standing_files, link_where, move_where, link_in, move_in, is_kept, remove_of, acts_for, is_blocked_from, is_blocked_where, is_blocked, is_free, overwrites_nothing, is_fit, is_fit_byte}
-use Rattle.mr_maildir.specs.declared.plan.FileAct.{FileAct}
-use Rattle.mr_maildir.specs.declared.plan.FileAct.TheVariants.{Link, Move, Remove}
-use Rattle.mr_maildir.specs.Name.{IsMadeName}
-use Rattle.mr_maildir.specs.Path.{is_path_byte}
+use Rattle.mr_maildir.proofs.Names.{FileAct, FileParts, IsMadeName, Link, Mail, Move, Remove, acts_for, after, and_from, and_parts, cases_Bool, false≢true}
+use Rattle.mr_maildir.proofs.Names.{file_eq, first_seen, flat_map, has_file, is_blocked, is_blocked_from, is_blocked_where, is_fit, is_fit_byte, is_free}
+use Rattle.mr_maildir.proofs.Names.{is_from_new, is_kept, is_path_byte, is_taken, kept_in, leb-true, letters_from, letters_with, link_in, link_where}
+use Rattle.mr_maildir.proofs.Names.{list_all, list_any, list_any-append, makes, move_in, move_where, name_in, nat_le, not-true, or_cases, or_left, or_parts}
+use Rattle.mr_maildir.proofs.Names.{or_right, overwrites_nothing, own_name, put_in, remove_of, slice_index, standing_files, standing_in, takes, tells}
+use Rattle.mr_maildir.proofs.Names.{without, ◌==◌}
 use Rattle.mr_maildir.proofs.FolderLemmas.{part, implied}
 use Rattle.mr_maildir.proofs.PlanLemmas.{is_itself, has_untaken, placed-unique, put-label, put-unseen_first, put-unseen, no_remove_makes, seen_taken, unseen_taken, unseen_made}
 

@@ -1,14 +1,8 @@
 -- a name's parts
 use Rattle.std.proofs.Common.{◌≡◌, ◌≢◌, ℕ, ◌<◌, true, false, not, List, [], ◌∷◌, ◌++◌, length, get_or, refl, sym, ap, ◌∙◌, Option, Some, None, IfSome, IfNone, arith, lit<}
-use Rattle.std.specs.Prelude.{◌==◌}
-use Rattle.std.specs.Borrow.{Bor}
-use Rattle.std.specs.Option.{MatchOption}
-use Rattle.std.specs.List.{list_all}
-use Rattle.std.proofs.lemmas.Bool.{and_parts, and_from, false≢true, eqb-true}
-use Rattle.std.proofs.lemmas.Str.Pattern.{IsSplitOnceResult, split_parts}
+use Rattle.mr_maildir.proofs.Names.{AreParts, Bor, HasLetters, IsName, IsSplitOnceResult, LacksLetters, MatchOption, NameParts, and_from, and_parts, eqb-true}
+use Rattle.mr_maildir.proofs.Names.{false≢true, info_text, is_info_byte, is_safe_byte, lacks_colon, list_all, name_text, split_parts, ◌==◌}
 use Rattle.mr_maildir.proofs.ByteLemmas.{lacks-from, first_byte}
-use Rattle.mr_maildir.specs.Letters.{is_info_byte}
-use Rattle.mr_maildir.specs.Name.{is_safe_byte, NameParts, name_text, info_text, lacks_colon, HasLetters, LacksLetters, IsName, AreParts}
 
 append_nothing : (text : List ℕ) → text ++ [] ≡ text
 append_nothing [] = refl

@@ -1,14 +1,8 @@
 -- hexadecimal digits as a part of a path
 use Rattle.std.proofs.Common.{◌≡◌, ℕ, suc, ◌/◌, ◌%◌, ◌<◌, Bool, true, not, ◌&&◌, List, [], ◌∷◌, length, refl, arith}
-use Rattle.std.specs.Prelude.{◌==◌, slice_index}
-use Rattle.std.specs.List.{list_all}
-use Rattle.std.proofs.lemmas.Bool.{and_from, false≢true}
-use Rattle.std.proofs.lemmas.List.Sums.{AllPass-from_list_all}
-use Rattle.hex.specs.Hex.{encode_with, encode_lower, lower_digits}
-use Rattle.hex.proofs.HexLemmas.{length-encode_with}
-use Rattle.mr_mail.proofs.FlagLemmas.{passes_below, passes-below}
-use Rattle.mr_maildir.specs.Name.{lacks_colon}
-use Rattle.mr_maildir.specs.Path.{is_path_byte, IsPathPart}
+use Rattle.mr_maildir.proofs.Names.{AllPass-from_list_all, IsPathPart, and_from, encode_lower, false≢true, is_path_byte, lacks_colon}
+use Rattle.hex.specs.Hex.{encode_with}
+use Rattle.mr_maildir.proofs.Names.{length-encode_with, list_all, lower_digits, passes-below, passes_below, slice_index, ◌==◌}
 
 -- what each of the sixteen digits passes, each digit of bytes does
 pub each_digit : (p : ℕ → Bool) → passes_below 16 (λ d. p (slice_index lower_digits d)) ≡ true → (bytes : List ℕ) → ((i : ℕ) → slice_index bytes i < 256) → list_all p (encode_lower bytes) ≡ true

@@ -1,18 +1,12 @@
 -- the files that acts leave
 use Rattle.std.proofs.Common.{◌≡◌, ℕ, ◌+◌, ◌<◌, ◌≤◌, Bool, true, false, not, cond, ◌&&◌, ◌||◌, List, [], ◌∷◌, ◌++◌, length, take, get_or, map, Option, Some, None, refl, sym, ap, ◌∙◌, inl, inr, append_assoc, arith}
-use Rattle.std.specs.Prelude.{◌==◌, find}
-use Rattle.std.specs.List.{list_all, list_any, flat_map}
-use Rattle.std.proofs.lemmas.Bool.{and_parts, and_from, or_parts, or_left, or_right, or_cases, false≢true, cases_Bool, eqb-true, eq-eqb, not-true}
-use Rattle.std.proofs.lemmas.List.{take_more}
+use Rattle.mr_maildir.proofs.Names.{FileAct, FileParts, Link, Mail, Move, Remove, acts_for, after, and_from, and_parts, any-filter_same, cases_Bool, done}
+use Rattle.mr_maildir.proofs.Names.{eq-eqb, eqb-true, false≢true, file_eq, file_eq_decides, find, first_in, first_seen, flags_told, flat_map, has_file}
+use Rattle.mr_maildir.proofs.Names.{has_label, is_from_new, is_kept, is_one, kept_in, letters_from, letters_on, letters_with, link_in, link_where, list_all}
+use Rattle.mr_maildir.proofs.Names.{list_any, list_any-append, makes, move_in, move_where, name_in, not-true, or_cases, or_else, or_left, or_parts, or_right}
+use Rattle.mr_maildir.proofs.Names.{placed, put_in, remove_of, standing_files, standing_from, standing_in, take_more, takes, telling_in, tells, text_eq}
+use Rattle.mr_maildir.proofs.Names.{touches, without, ◌==◌}
 use Rattle.std.proofs.lemmas.List.Concat.{flat_map-append}
-use Rattle.std.proofs.lemmas.List.Folds.{list_any-append}
-use Rattle.std.proofs.lemmas.Map.Views.{any-filter_same}
-use Rattle.mr_mail.specs.Label.{text_eq, has_label}
-use Rattle.mr_maildir.specs.Letters.{letters_with, flags_told}
-use Rattle.mr_maildir.specs.File.{FileParts, letters_on, file_eq, file_eq_decides, has_file}
-use Rattle.mr_maildir.specs.FileActs.{without, done, after, makes, takes, touches, Mail, tells, or_else, first_in, telling_in, kept_in, name_in, letters_from, is_from_new, placed, put_in, first_seen, standing_from, standing_in, standing_files, link_where, move_where, link_in, move_in, is_one, is_kept, remove_of, acts_for}
-use Rattle.mr_maildir.specs.declared.plan.FileAct.{FileAct}
-use Rattle.mr_maildir.specs.declared.plan.FileAct.TheVariants.{Link, Move, Remove}
 use Rattle.mr_maildir.proofs.ViewLemmas.{same_text, text_eq-itself}
 use Rattle.mr_maildir.proofs.LettersLemmas.{flags_told-letters_with}
 

@@ -1,18 +1,10 @@
 -- how a mail's reference is read
 use Rattle.std.proofs.Common.{◌≡◌, ℕ, ◌<◌, ◌^◌, true, not, List, [], ◌∷◌, ◌++◌, Option, Some, None, IfSome, IfNone, Bor, refl, sym, ap, ◌∙◌, arith}
-use Rattle.std.specs.Prelude.{◌==◌}
-use Rattle.std.specs.Cmp.Lexicographic.{bytes_decides}
-use Rattle.std.specs.Fmt.{decimal}
-use Rattle.std.specs.Option.{MatchOption, option_copied}
+use Rattle.mr_maildir.proofs.Names.{IsDigest, MatchOption, ReferenceParts, and_parts, behind_key, bytes_decides, decimal, encode_lower, false≢true}
+use Rattle.mr_maildir.proofs.Names.{is_one_line, option_copied, text_eq, ◌==◌}
 use Rattle.std.specs.Str.Parse.{AllDigits, digits_value}
-use Rattle.std.proofs.lemmas.Bool.{and_parts, false≢true}
 use Rattle.std.proofs.lemmas.Fmt.{digits_decimal}
 use Rattle.std.proofs.lemmas.Str.Parse.{IsNumeralModel, numerals_by_value, tells_digits, not_in_digits}
-use Rattle.hex.specs.Hex.{encode_lower}
-use Rattle.mr_mail.specs.Label.{text_eq}
-use Rattle.mr_maildir.specs.Reference.{IsDigest, ReferenceParts}
-use Rattle.mr_maildir.specs.Told.{behind_key}
-use Rattle.mr_maildir.specs.inner.Told.{is_one_line}
 use Rattle.mr_maildir.proofs.ByteLemmas.{lacks-from, first_byte}
 use Rattle.mr_maildir.proofs.PathLemmas.{each_digit}
 use Rattle.mr_maildir.proofs.ToldLemmas.{behind-key}

@@ -1,20 +1,10 @@
 -- lines that tell of a mail's file
 use Rattle.std.proofs.Common.{◌≡◌, ◌≢◌, ℕ, ◌+◌, ◌<◌, Bool, true, false, not, cond, ◌&&◌, List, [], ◌∷◌, ◌++◌, length, get_or, take, drop, Option, Some, None, IfSome, IfNone, refl, sym, ap, ◌∙◌, append_assoc, lit<}
-use Rattle.std.specs.Prelude.{◌==◌, nat_eq, nat_le, slice_index, codes}
-use Rattle.std.specs.Borrow.{Bor}
-use Rattle.std.specs.Cmp.Lexicographic.{pointwise, bytes_decides}
-use Rattle.std.specs.List.{list_all, starts_with}
-use Rattle.std.specs.Option.{MatchOption, option_copied}
+use Rattle.mr_maildir.proofs.Names.{Bor, IsSplitOnceResult, MatchOption, and_from, and_parts, behind_key, bytes_decides, codes, drop_at, eqb-true, false≢true}
+use Rattle.mr_maildir.proofs.Names.{first_told, folder_key, is_label, is_label_byte, is_one_line, is_path_byte, is_safe_byte, is_safe_folder, is_safe_name}
+use Rattle.mr_maildir.proofs.Names.{lines_behind, list_all, name_key, nat_eq, nat_le, option_copied, pointwise, slice_index, split_parts, starts_text}
+use Rattle.mr_maildir.proofs.Names.{starts_with, take_at, text_eq, told_by, with_folder, with_line, with_name, ◌==◌}
 use Rattle.std.specs.Str.Pattern.{FindsTextPrefix}
-use Rattle.std.proofs.lemmas.Bool.{and_parts, and_from, false≢true, eqb-true}
-use Rattle.std.proofs.lemmas.List.{take_at, drop_at}
-use Rattle.std.proofs.lemmas.Str.Pattern.{IsSplitOnceResult, split_parts, starts_text}
-use Rattle.mr_mail.specs.Label.{is_label, is_label_byte, text_eq}
-use Rattle.mr_maildir.specs.Folder.{is_safe_folder}
-use Rattle.mr_maildir.specs.Name.{is_safe_name, is_safe_byte}
-use Rattle.mr_maildir.specs.Path.{is_path_byte}
-use Rattle.mr_maildir.specs.Told.{lines_behind, behind_key, first_told, told_by, name_key, folder_key, with_line, with_name, with_folder}
-use Rattle.mr_maildir.specs.inner.Told.{is_one_line}
 use Rattle.mr_maildir.proofs.ByteLemmas.{lacks-from, not_first}
 use Rattle.mr_maildir.proofs.FolderLemmas.{implied}
 

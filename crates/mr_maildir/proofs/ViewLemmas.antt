@@ -1,21 +1,17 @@
 -- views that are one, and labels in order
 use Rattle.std.proofs.Common.{◌≡◌, ℕ, Bool, true, false, ◌||◌, List, [], ◌∷◌, refl, sym, ap, ◌∙◌, inl, inr, ◌⊎◌, lit≤, ◌≤◌}
-use Rattle.std.specs.Prelude.{◌==◌}
+use Rattle.mr_maildir.proofs.Names.{All-from_recursion, All-nil, AllByRecursion, AllPass, IsPermutation, IsSorted, IsView, ViewParts}
+use Rattle.std.specs.List.Sorted.{IsStrictlySortedBy}
+use Rattle.mr_maildir.proofs.Names.{and_from, and_parts, bytes_decides, dedup, eq-eqb, eqb-true, false≢true, has_label, in_order, is_label}
+use Rattle.mr_maildir.proofs.Names.{list_any-IsPermutation, nat_list_cmp_total, nowhere, or_cases, or_right, pointwise, pointwise_decides, recursion_from_All}
+use Rattle.mr_maildir.proofs.Names.{text_cmp, text_eq, texts_ties, view_eq, with_label, ◌==◌}
 use Rattle.std.specs.Bool.{Decides}
 use Rattle.std.specs.Cmp.{tied_itself}
-use Rattle.std.specs.Cmp.Lexicographic.{pointwise, pointwise_decides, bytes_decides, nat_list_cmp_total, texts_ties}
-use Rattle.std.specs.List.{dedup, AllByRecursion, AllPass}
-use Rattle.std.specs.List.Sorted.{IsStrictlySortedBy, IsSorted, IsPermutation}
 use Rattle.std.specs.Ordering.{match_ordering, ordering_reverse}
 use Rattle.std.specs.declared.cmp.Ordering.TheVariants.{Less, Equal, Greater}
-use Rattle.std.proofs.lemmas.Bool.{and_parts, and_from, or_cases, or_right, eqb-true, eq-eqb, false≢true}
 use Rattle.std.proofs.lemmas.List.Kept.{IsStrictlySortedBy-dedup}
-use Rattle.std.proofs.lemmas.List.Sorted.{list_any-IsPermutation}
-use Rattle.std.proofs.lemmas.List.Elements.{All-nil, All-from_recursion, recursion_from_All}
 use Rattle.std.proofs.lemmas.Map.Lookups.{exact_bytes}
-use Rattle.mr_mail.specs.Label.{text_cmp, text_eq, has_label, is_label}
 use Rattle.mr_mail.proofs.LabelLemmas.{list_any-dedup}
-use Rattle.mr_maildir.specs.View.{ViewParts, IsView, view_eq, with_label, in_order, nowhere}
 
 -- ---- views that are one
 

@@ -1,11 +1,7 @@
 -- Lists, tests and versions.
 use Rattle.std.proofs.Common.{ℕ, nat_lt, arith, ◌≡◌, refl, sym, subst, Bool, true, false, not, ◌||◌, List, [], ◌∷◌, ◌++◌, ◌⊎◌, inl, inr, IsTrue, IsFalse, eq-eqb}
-use Rattle.std.specs.List.{list_any}
-use Rattle.std.proofs.lemmas.Bool.{le-ltb}
+use Rattle.mr_model.proofs.Names.{Name, exact_names, is, le-ltb, list_any}
 use Rattle.std.proofs.lemmas.Map.Views.{tells_apart}
-use Rattle.mr_version.specs.Name.{Name}
-use Rattle.mr_version.specs.Order.{exact_names}
-use Rattle.mr_model.specs.Versions.{is}
 pub use Rattle.std.proofs.lemmas.Bool.{cases_Bool as cases, or_cases as or_parts, or_left, or_right, false_from_ne_true as false_from}
 pub use Rattle.mr_model.specs.Rules.{In}
 

@@ -1,13 +1,9 @@
 -- A record that a source gives.
 use Rattle.std.proofs.Common.{◌≡◌, refl, sym, ap, subst, ◌∙◌, ℕ, ◌<◌, ◌==◌, Bool, not, ◌&&◌, List, ◌∷◌, ◌⊎◌, inl, inr, IsTrue, IsFalse, arith, eqb-true, eq-eqb, Some}
-use Rattle.std.specs.List.{list_any}
-use Rattle.std.proofs.lemmas.Bool.{and_from, and_parts, both_ways}
-use Rattle.mr_version.specs.Name.{Name}
-use Rattle.mr_model.specs.Versions.{Versions, is_before}
-use Rattle.mr_model.specs.History.{Setting, Record, Ask, claims, Body, Body.Start, Body.Item, Body.MoveOut, Body.Held, Body.Know, Body.End}
-use Rattle.mr_model.specs.Moment.{Moment, known, stored, Holds, at_two, selection, is_held, starts_full, same_stream}
-use Rattle.mr_model.specs.Changes.{is_first_held, after_giving}
-use Rattle.mr_model.specs.Rules.{Covers, IsOf, HasHeld, IsDue, IsNext, IsDraw, version_in}
+use Rattle.mr_model.proofs.Names.{Ask, Body, Body.End, Body.Held, Body.Item, Body.Know, Body.MoveOut, Body.Start, Covers, HasHeld, Holds, IsDraw, IsDue}
+use Rattle.mr_model.proofs.Names.{IsNext, IsOf, Moment, Name, Record, Setting, Versions, after_giving, and_from, and_parts, at_two, both_ways, claims}
+use Rattle.mr_model.proofs.Names.{is_before, is_first_held, is_held, known, list_any, same_stream, selection, starts_full, version_in}
+use Rattle.mr_model.specs.Moment.{stored}
 use Rattle.mr_model.proofs.Basics.{cases, any_elim, false_from}
 use Rattle.mr_model.proofs.Sets.{SetsHold, held_known, choice, two_elim}
 use Rattle.mr_model.proofs.Sound.{IsSound}

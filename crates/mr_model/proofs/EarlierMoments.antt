@@ -1,15 +1,14 @@
 -- What a stream teaches and shows is what its source knew and stored at two moments of the history.
 use Rattle.std.proofs.Common.{◌≡◌, refl, sym, ap, subst, ◌∙◌, ℕ, ◌==◌, true, not, ◌&&◌, List, [], ◌∷◌, ◌++◌, ◌⊎◌, inl, inr, IsTrue, eqb-true, eq-eqb, Option, Some, None, arith}
-use Rattle.std.specs.List.{list_any}
-use Rattle.std.proofs.lemmas.Bool.{and_from, and_parts, both_ways}
-use Rattle.mr_model.specs.Versions.{Versions}
-use Rattle.mr_model.specs.History.{◌does◌, Setting, Ask, Record, Reply, Reply.Issued, Reply.Done, Reply.Asked, Reply.Streaming, Reply.Gave, Reply.Took, Reply.Known, Reply.Finished, Reply.Offered, Reply.TookEntry, Reply.Vouched, Step, History}
-use Rattle.mr_model.specs.declared.event.Act.{Act}
-use Rattle.mr_model.specs.declared.event.Act.TheVariants.{Create, Edit, Retire, Pull, Receive, DeliverPart, CutIn, Answer, Next, CutOut, Offer, Take, Close, Vouch, Release}
-use Rattle.mr_model.specs.Moment.{Mark.CloseMark, Moment, known, stored, start, at_two, numbered, is_held, same_stream}
-use Rattle.mr_model.specs.Changes.{Reception.AsTaken, Reception.AsKnown, Reception.AsFinished, Change, Change.Issues, Change.Asks, Change.Opens, Change.Gives, Change.Takes, Change.Retires, Change.Offers, Change.Closes, Change.TakesEntry, Change.Vouches, Change.Releases, Change.Stays, Change.Misfits, change_if_found, change_of, is_first_held, after_opening, after_giving, with_mark, is_closed, happens, change, after, now}
-use Rattle.mr_model.specs.Laws.{ReadsAnswer, ReadsHeld, WasOpened, WasShown}
-use Rattle.mr_model.specs.Rules.{HasHeld, IsNext, IsAllowed, IsRun}
+use Rattle.mr_model.proofs.Names.{Act, Answer, Ask, Change, Change.Asks, Change.Closes, Change.Gives, Change.Issues, Change.Misfits, Change.Offers}
+use Rattle.mr_model.proofs.Names.{Change.Opens, Change.Releases, Change.Retires, Change.Stays, Change.Takes, Change.TakesEntry, Change.Vouches, Close, Create}
+use Rattle.mr_model.proofs.Names.{CutIn, CutOut, DeliverPart, Edit, HasHeld, History, IsAllowed, IsNext, IsRun, Mark.CloseMark, Moment, Next, Offer, Pull}
+use Rattle.mr_model.proofs.Names.{ReadsAnswer, ReadsHeld, Receive, Reception.AsFinished, Reception.AsKnown, Reception.AsTaken, Record, Release, Reply}
+use Rattle.mr_model.proofs.Names.{Reply.Asked, Reply.Done, Reply.Finished, Reply.Gave, Reply.Issued, Reply.Known, Reply.Offered, Reply.Streaming, Reply.Took}
+use Rattle.mr_model.proofs.Names.{Reply.TookEntry, Reply.Vouched, Retire, Setting, Step, Take, Versions, Vouch, WasOpened, WasShown, after, after_giving}
+use Rattle.mr_model.proofs.Names.{after_opening, and_from, and_parts, at_two, both_ways, change, change_if_found, change_of, happens, is_closed}
+use Rattle.mr_model.proofs.Names.{is_first_held, is_held, known, list_any, now, numbered, same_stream, start, with_mark, ◌does◌}
+use Rattle.mr_model.specs.Moment.{stored}
 use Rattle.mr_model.proofs.Basics.{cases, any_elim, any_intro}
 use Rattle.mr_model.proofs.Sets.{choice, two_elim, two_same}
 use Rattle.mr_model.proofs.Draws.{held_split, same_or_other}

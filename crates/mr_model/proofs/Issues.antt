@@ -1,11 +1,7 @@
 -- Supersession over an issue list in which each version is new, and each base was issued before.
 use Rattle.std.proofs.Common.{◌≡◌, refl, sym, ap, subst, ◌∙◌, ℕ, ◌+◌, ◌<◌, ◌≤◌, ◌==◌, ◌||◌, ◌&&◌, List, [], ◌∷◌, ◌⊎◌, inl, inr, IsTrue, IsFalse, arith, eqb-true, eq-eqb}
-use Rattle.std.specs.Prelude.{⊤}
-use Rattle.std.specs.List.{list_any}
-use Rattle.std.proofs.lemmas.Bool.{and_from, and_parts, both_ways, eqb-false}
-use Rattle.mr_version.specs.Name.{Name}
-use Rattle.mr_model.specs.Versions.{Versions, is, Issue, is_issued, item_of, issue_count, last_own, replacements, replaces, made_with, is_superseded}
-use Rattle.mr_model.specs.Laws.{HoldsOfReplaced, IsTransitive}
+use Rattle.mr_model.proofs.Names.{HoldsOfReplaced, IsTransitive, Issue, Name, Versions, and_from, and_parts, both_ways, eqb-false, is, is_issued}
+use Rattle.mr_model.proofs.Names.{is_superseded, issue_count, item_of, last_own, list_any, made_with, replacements, replaces, ⊤}
 use Rattle.mr_model.proofs.Basics.{In, cases, or_parts, or_left, or_right, is_refl, is_path, is_from, any_elim, any_intro, in_append, append_right}
 
 -- the item of x was issued before it and is its own item; or x creates its item

@@ -1,3 +1,4 @@
+pub mod Names
 pub mod Basics
 pub mod Issues
 pub mod Sets

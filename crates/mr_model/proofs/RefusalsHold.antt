@@ -1,14 +1,7 @@
 -- What breaks the rules in the refused rows.
 use Rattle.std.proofs.Common.{◌≡◌, refl, sym, ap, subst, ℕ, ◌==◌, Bool, true, false, List, [], ◌∷◌, inl, inr, IsTrue, arith, Some}
-use Rattle.mr_version.specs.Name.{Name}
-use Rattle.mr_model.specs.History.{Ask, Record, Body, Body.Start, Entry, Entry.Added, Entry.Dropped, Step}
-use Rattle.mr_model.specs.Moment.{is_held, start}
-use Rattle.mr_model.specs.Changes.{change, now}
-use Rattle.mr_model.specs.Rules.{In, HasHeld, IsDue, IsAllowed, version_in}
-use Rattle.mr_model.specs.Check.{is_run}
-use Rattle.mr_model.specs.Rows.{row_setting, row_tests, Row, ◌•◌}
-use Rattle.mr_model.specs.PortRows.{adds}
-use Rattle.mr_model.specs.RefusedRows.{two_to_tell, IsRefused}
+use Rattle.mr_model.proofs.Names.{Ask, Body, Body.Start, Entry, Entry.Added, Entry.Dropped, HasHeld, In, IsAllowed, IsDue, IsRefused, Name, Record, Row, Step}
+use Rattle.mr_model.proofs.Names.{adds, change, is_held, is_run, now, row_setting, row_tests, start, two_to_tell, version_in, ◌•◌}
 use Rattle.mr_model.proofs.Theorem.{run_later}
 use Rattle.mr_model.proofs.RowsHold.{is_run_by_test}
 

@@ -1,12 +1,6 @@
 -- A worked row is a run by the test.
 use Rattle.std.proofs.Common.{◌≡◌, refl, ap, arith, ◌==◌, Bool, true, false, not, ◌||◌, ◌&&◌, if◌then◌else◌, IsTrue, eqb-true}
-use Rattle.mr_version.specs.Name.{Name}
-use Rattle.mr_model.specs.Changes.{now}
-use Rattle.mr_model.specs.Moment.{start}
-use Rattle.mr_model.specs.Check.{AreSoundTests, is_run}
-use Rattle.mr_model.specs.Rows.{◌•◌, inbox, work, row_setting, row_tests, Row, Runs}
-use Rattle.mr_model.specs.Versions.{Conflicts}
-use Rattle.mr_model.specs.SyncRows.{conflict}
+use Rattle.mr_model.proofs.Names.{AreSoundTests, Conflicts, Name, Row, Runs, conflict, inbox, is_run, now, row_setting, row_tests, start, work, ◌•◌}
 use Rattle.mr_model.proofs.CheckSound.{check_sound}
 
 -- ---- the filters of the rows

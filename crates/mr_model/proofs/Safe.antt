@@ -1,12 +1,10 @@
 -- What an issue, a taken record and a release make of a replica's sets is safe.
 use Rattle.std.proofs.Common.{◌≡◌, refl, sym, ap, subst, ◌∙◌, ℕ, ◌+◌, ◌==◌, Bool, false, not, ◌&&◌, List, [], ◌∷◌, inl, inr, IsTrue, IsFalse, Some, eqb-true, arith}
-use Rattle.std.proofs.lemmas.Bool.{and_parts, both_ways}
-use Rattle.mr_version.specs.Name.{Name}
-use Rattle.mr_model.specs.Versions.{Versions, is, Issue, is_issued, item_of, issue_count, last_own, made_with}
-use Rattle.mr_model.specs.History.{Setting, Record, Receipt, Body, Body.Start, Body.Item, Body.MoveOut, Body.Held, Body.Know, Body.End}
-use Rattle.mr_model.specs.Moment.{Holding, Moment, known, stored, pushed_out, ◌with◌, ◌without◌, only_if, only, selection, completes}
-use Rattle.mr_model.specs.Changes.{Reception, with_issue, holding_after_issue, holding_after_version, holding_after_end, holding_after_record, holding_after_release}
-use Rattle.mr_model.specs.Rules.{IsIssue, IsReceived, version_in}
+use Rattle.mr_model.proofs.Names.{Body, Body.End, Body.Held, Body.Item, Body.Know, Body.MoveOut, Body.Start, Holding, IsIssue, IsReceived, Issue, Moment}
+use Rattle.mr_model.proofs.Names.{Name, Receipt, Reception, Record, Setting, Versions, and_parts, both_ways, completes, holding_after_end}
+use Rattle.mr_model.proofs.Names.{holding_after_issue, holding_after_record, holding_after_release, holding_after_version, is, is_issued, issue_count}
+use Rattle.mr_model.proofs.Names.{item_of, known, last_own, made_with, only, only_if, pushed_out, selection, version_in, with_issue, ◌without◌, ◌with◌}
+use Rattle.mr_model.specs.Moment.{stored}
 use Rattle.mr_model.proofs.Basics.{In, cases, or_parts, or_left, or_right, is_refl, is_path, in_append}
 use Rattle.mr_model.proofs.Issues.{HasItem, IsIssuable, later_from_count, item_is_issued, last_own_issued, made_by, made_issued, made_trans, superseded_by, fresh}
 use Rattle.mr_model.proofs.Sets.{Within, held_known, choice, with_known, learned_cases, learned_from, without_parts, without_from, remains_cases, remains_old, IsKnowing}

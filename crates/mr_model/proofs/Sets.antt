@@ -1,11 +1,7 @@
 -- What is known and held, at every moment of a run.
 use Rattle.std.proofs.Common.{◌≡◌, refl, sym, subst, ℕ, ◌+◌, ◌==◌, Bool, true, false, not, ◌||◌, ◌&&◌, List, [], ◌∷◌, ◌⊎◌, inl, inr, IsTrue, IsFalse, eqb-true, eq-eqb, Some, length, if◌then◌else◌, arith}
-use Rattle.std.proofs.lemmas.Bool.{and_parts, and_from, both_ways}
-use Rattle.mr_version.specs.Name.{Name}
-use Rattle.mr_model.specs.Versions.{Versions, is, Issue, is_issued, made_with}
-use Rattle.mr_model.specs.History.{Record}
-use Rattle.mr_model.specs.Moment.{Holding, Moment, at, at_two, ◌with◌, ◌without◌, only_if, only, numbered}
-use Rattle.mr_model.specs.Rules.{version_in}
+use Rattle.mr_model.proofs.Names.{Holding, Issue, Moment, Name, Record, Versions, and_from, and_parts, at, at_two, both_ways, is, is_issued, made_with}
+use Rattle.mr_model.proofs.Names.{numbered, only, only_if, version_in, ◌without◌, ◌with◌}
 use Rattle.mr_model.proofs.Basics.{In, cases, or_parts, or_left, or_right, is_path, is_from}
 use Rattle.mr_model.proofs.Issues.{IsIssueList, IsIssuable, made_kept}
 

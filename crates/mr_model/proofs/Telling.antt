@@ -3,16 +3,13 @@ use Rattle.std.proofs.Common.{◌≡◌, refl, sym, subst, ◌∙◌, ℕ, List,
 use Rattle.std.specs.declared.cmp.Ordering.{Ordering}
 use Rattle.std.specs.declared.cmp.Ordering.TheVariants.{Less, Equal, Greater}
 use Rattle.std.specs.Ordering.{is_lt, ordering_reverse}
-use Rattle.std.proofs.lemmas.Bool.{both_ways}
-use Rattle.mr_version.specs.Name.{Name, name_cmp}
-use Rattle.mr_version.specs.Order.{exact_names, names_total}
-use Rattle.mr_model.specs.Versions.{Versions, is_before, Issue, is_issued, insert_in_order, in_version_order}
-use Rattle.mr_model.specs.History.{Setting, Entry, History}
-use Rattle.mr_model.specs.Moment.{Holding, Mark.CloseMark, Moment, stored, start, ◌without◌}
-use Rattle.mr_model.specs.Changes.{Change, Change.Issues, Change.Asks, Change.Opens, Change.Gives, Change.Takes, Change.Retires, Change.Offers, Change.Closes, Change.TakesEntry, Change.Vouches, Change.Releases, Change.Stays, Change.Misfits, feed_after, holding_after_issue, holding_after_record, holding_after_release, with_holding, with_issue, with_mark, is_closed, happens, now}
-use Rattle.mr_model.specs.Rules.{In, IsAllowed, IsRun}
-use Rattle.mr_model.specs.Headline.{EachPair}
-use Rattle.mr_model.specs.Laws.{IsOrdered, TellsChange, Tells}
+use Rattle.mr_model.proofs.Names.{Change, Change.Asks, Change.Closes, Change.Gives, Change.Issues, Change.Misfits, Change.Offers, Change.Opens}
+use Rattle.mr_model.proofs.Names.{Change.Releases, Change.Retires, Change.Stays, Change.Takes, Change.TakesEntry, Change.Vouches, EachPair, Entry, History}
+use Rattle.mr_model.proofs.Names.{Holding, In, IsAllowed, IsOrdered, IsRun, Issue, Mark.CloseMark, Moment, Name, Setting, Tells, TellsChange, Versions}
+use Rattle.mr_model.proofs.Names.{both_ways, exact_names, feed_after, happens, holding_after_issue, holding_after_record, holding_after_release}
+use Rattle.mr_model.proofs.Names.{in_version_order, insert_in_order, is_before, is_closed, is_issued, name_cmp, names_total, now, start, with_holding}
+use Rattle.mr_model.proofs.Names.{with_issue, with_mark, ◌without◌}
+use Rattle.mr_model.specs.Moment.{stored}
 use Rattle.mr_model.proofs.Basics.{cases, false_from}
 use Rattle.mr_model.proofs.Issues.{IsIssueList, fresh}
 use Rattle.mr_model.proofs.Lists.{each_from, each_at, pairs_map, in_filter, filter_in, pairs_filter, in_placed, ordered_in, in_ordered, in_issued, Differ, ordered_distinct}

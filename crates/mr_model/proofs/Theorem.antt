@@ -1,15 +1,13 @@
 -- The headline follows from what holds at every moment.
 use Rattle.std.proofs.Common.{◌≡◌, ◌≢◌, refl, sym, ap, subst, ◌∙◌, ℕ, Bool, true, List, [], ◌∷◌, ◌++◌, ◌↔◌, inl, inr, IsTrue, arith, eq-eqb}
-use Rattle.std.proofs.lemmas.Bool.{cases_order}
+use Rattle.mr_model.proofs.Names.{Change, Change.Asks, Change.Closes, Change.Gives, Change.Issues, Change.Misfits, Change.Offers, Change.Opens}
+use Rattle.mr_model.proofs.Names.{Change.Releases, Change.Retires, Change.Stays, Change.Takes, Change.TakesEntry, Change.Vouches, Entry, Headline, History}
+use Rattle.mr_model.proofs.Names.{Holding, InIssueOrder, IsAllowed, IsCurrent, IsRun, IsSoundHolding, KnowsItem, LosesNothing, Mark.CloseMark, Moment, Name}
+use Rattle.mr_model.proofs.Names.{Reply.Done, Retire, RetiresBetween, Setting, Step, Versions, added, after, cases_order, change, feed_after, happens}
+use Rattle.mr_model.proofs.Names.{holding_after_issue, holding_after_record, holding_after_release, is_closed, is_issued, item_of, now, start, with_holding}
+use Rattle.mr_model.proofs.Names.{with_issue, with_mark, ◌does◌}
 use native.Mathlib.Decide.{dec_lt}
-use Rattle.mr_version.specs.Name.{Name}
-use Rattle.mr_model.specs.Versions.{Versions, is_issued, item_of}
-use Rattle.mr_model.specs.History.{◌does◌, Setting, Entry, Reply.Done, Step, History}
-use Rattle.mr_model.specs.declared.event.Act.TheVariants.{Retire}
-use Rattle.mr_model.specs.Moment.{Holding, Mark.CloseMark, Moment, stored, start}
-use Rattle.mr_model.specs.Changes.{Change, Change.Issues, Change.Asks, Change.Opens, Change.Gives, Change.Takes, Change.Retires, Change.Offers, Change.Closes, Change.TakesEntry, Change.Vouches, Change.Releases, Change.Stays, Change.Misfits, holding_after_issue, holding_after_record, holding_after_release, feed_after, with_holding, with_issue, with_mark, is_closed, happens, change, after, now}
-use Rattle.mr_model.specs.Headline.{IsSoundHolding, LosesNothing, KnowsItem, IsCurrent, InIssueOrder, RetiresBetween, Headline, added}
-use Rattle.mr_model.specs.Rules.{IsAllowed, IsRun}
+use Rattle.mr_model.specs.Moment.{stored}
 use Rattle.mr_model.proofs.Basics.{In}
 use Rattle.mr_model.proofs.Issues.{superseded_in, made_issued, made_item, chain}
 use Rattle.mr_model.proofs.Lists.{pairs_map}

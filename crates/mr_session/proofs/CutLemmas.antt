@@ -1,12 +1,7 @@
 -- A list of versions is cut in one way.
 use Rattle.std.proofs.Common.{◌≡◌, ◌<◌, ℕ, suc, List, [], ◌∷◌, ◌++◌, length, take, refl, sym, ap, subst, ◌∙◌, inl, inr, arith}
-use Rattle.std.proofs.lemmas.Bool.{cases_lt}
-use Rattle.mr_version.specs.Name.{Name}
-use Rattle.mr_forms.specs.Sets.{is_listed}
-use Rattle.mr_concise.specs.declared.vector.AuthorColumn.{AuthorColumn}
-use Rattle.mr_concise.specs.Vector.{HasTooManyHoles}
+use Rattle.mr_session.proofs.Names.{AreCut, AuthorColumn, FitOneByOne, HasJust, HasTooManyHoles, IsAsLongAsCanBe, Name, cases_lt, is_listed}
 use Rattle.mr_concise.proofs.EqualLemmas.{vectors_same}
-use Rattle.mr_session.specs.Held.{FitOneByOne, HasJust, IsAsLongAsCanBe, AreCut}
 
 -- ---- two ways to part a list
 

@@ -2,20 +2,9 @@
 use Rattle.std.proofs.Common.{◌≡◌, ◌==◌, ℕ, Bool, if◌then◌else◌, List, [], ◌∷◌, map, Option, Some, None, Result, sym, ap, subst, ◌∙◌, arith}
 use Rattle.std.specs.Result.{IfOk}
 use Rattle.std.proofs.lemmas.Result.{IfOk-weaker}
-use Rattle.mr_concise.specs.declared.vector.AuthorColumn.{AuthorColumn}
-use Rattle.mr_madewith.specs.Revision.{Rev}
-use Rattle.mr_store.specs.Holdings.{Holdings}
-use Rattle.mr_store.specs.Revisions.{version_of}
-use Rattle.mr_wire.specs.Values.{Piece}
-use Rattle.mr_wire.specs.Frames.{Sent}
-use Rattle.mr_wire.specs.declared.frame.Mode.{Mode}
-use Rattle.mr_wire.specs.declared.frame.Body.{Body}
-use Rattle.mr_wire.specs.declared.frame.Body.TheVariants.{Held}
-use Rattle.mr_session.specs.Held.{AreCut}
-use Rattle.mr_session.specs.Table.{Table, with_closed, with_changed}
-use Rattle.mr_session.specs.Stream.{Stream, DrawsFirstHeld, DrawsAfterWalk, DrawsWalk, DrawsKnow, DrawsRest, DrawsAt, Draws, is_end, GivesIn, IsOnlyDraw}
-use Rattle.mr_session.specs.Onward.{advanced}
-use Rattle.mr_session.specs.declared.outgoing.onward.Prepared.{Prepared}
+use Rattle.mr_session.proofs.Names.{AreCut, AuthorColumn, Body, Draws, DrawsAfterWalk, DrawsAt, DrawsFirstHeld, DrawsKnow, DrawsRest, DrawsWalk, GivesIn}
+use Rattle.mr_session.proofs.Names.{Held, Holdings, IsOnlyDraw, Mode, Piece, Prepared, Rev, Sent, Stream, Table, advanced, is_end, version_of, with_changed}
+use Rattle.mr_session.proofs.Names.{with_closed}
 use Rattle.mr_session.proofs.CutLemmas.{cut_unique}
 
 abbrev first_of : List (List AuthorColumn) → List AuthorColumn

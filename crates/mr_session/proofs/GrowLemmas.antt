@@ -1,31 +1,16 @@
 -- What a run above all others makes of a column, and what a column more makes of a vector.
 use Rattle.std.proofs.Common.{◌≡◌, ◌≤◌, ◌<◌, ◌+◌, ◌-◌, ◌==◌, ◌&&◌, ◌||◌, not, nat_le, if◌then◌else◌, ℕ, zero, suc, Bool, true, false, List, [], ◌∷◌, ◌++◌, append_assoc, append-nil, length-append, take, drop, refl, sym, ap, subst, ◌∙◌, ◌⊎◌, inl, inr, arith}
-use Rattle.std.specs.List.{AllByRecursion, list_any}
-use Rattle.std.specs.Ordering.{is_lt}
+use Rattle.mr_session.proofs.Names.{AllByRecursion, AreBelow, AuthorColumn, Extent, HasJust, HasTooManyHoles, Hole, IsColumn, IsSame}
 use Rattle.std.specs.List.Sorted.{IsStrictlySortedBy}
-use Rattle.std.specs.declared.cmp.Ordering.TheVariants.{Less}
-use Rattle.std.proofs.lemmas.List.{take-append-drop}
-use Rattle.std.proofs.lemmas.List.Folds.{list_any-append}
-use Rattle.std.proofs.lemmas.Bool.{cases_lt, cases_eq, lt-leb, le-leb, lt-ltb, ne_eqb, eq-eqb, or_right}
-use Rattle.std.proofs.lemmas.Bool.Decides.{nat_tests}
-use Rattle.mr_version.specs.Name.{Name, IsVersion, name_cmp, name_eq}
-use Rattle.mr_forms.specs.Sets.{IsSame, is_listed}
-use Rattle.mr_concise.specs.declared.vector.AuthorColumn.{AuthorColumn}
-use Rattle.mr_concise.specs.declared.column.Hole.{Hole}
+use Rattle.mr_session.proofs.Names.{IsVectorFrom, IsVectorOf, IsVersion, Less, Name, bound-on, cases_eq, cases_lt, column_has, column_has-empty, column_of}
+use Rattle.mr_session.proofs.Names.{edges, eq-eqb, few-vector, gap, hole_edges, hole_has, is_before, is_listed, is_lt, le-leb, list_any, list_any-append}
+use Rattle.mr_session.proofs.Names.{lt-leb, lt-ltb, name_cmp, name_eq, name_eq_parts, name_eq_self, nat_tests, ne_eqb, or_right, same_names, take-append-drop}
+use Rattle.mr_session.proofs.Names.{vector_has, with_counter, with_last}
 use Rattle.mr_concise.specs.Edges.{IsRising}
-use Rattle.mr_concise.specs.Column.{Extent, IsColumn, column_has, edges, hole_edges, hole_has, gap, with_counter}
-use Rattle.mr_concise.specs.Vector.{column_of, vector_has, IsVectorFrom, IsVectorOf, HasTooManyHoles}
 use Rattle.mr_concise.specs.inner.Vector.{in_column}
 use Rattle.mr_concise.proofs.ColumnLemmas.{column_has-edges}
 use Rattle.mr_concise.proofs.InsertLemmas.{with_counter-means}
 use Rattle.mr_concise.proofs.LastLemmas.{vector_has-versions, column_has-above}
-use Rattle.mr_concise.proofs.NameLemmas.{name_eq_parts}
-use Rattle.mr_concise.proofs.UnionLemmas.{bound-on, column_has-empty}
-use Rattle.mr_concise.proofs.VersionLemmas.{few-vector}
-use Rattle.mr_madewith.specs.Keyed.{is_before}
-use Rattle.mr_madewith.proofs.Rising.{name_eq_self, same_names}
-use Rattle.mr_session.specs.Held.{HasJust}
-use Rattle.mr_session.specs.inner.Held.{AreBelow, with_last}
 use Rattle.mr_session.proofs.HeldLemmas.{listed_more}
 
 -- ---- a run above a column

@@ -1,16 +1,9 @@
 -- A vector that grows by runs: what each step makes of it.
 use Rattle.std.proofs.Common.{◌≡◌, ◌≤◌, ◌<◌, ◌+◌, ◌-◌, ◌||◌, nat_le, ℕ, Bool, List, [], ◌∷◌, ◌++◌, length, Result, IfOk, arith}
-use Rattle.std.proofs.lemmas.List.Folds.{list_any-append}
-use Rattle.mr_version.specs.Name.{Name}
-use Rattle.mr_forms.specs.Sets.{Versions, IsSame, is_listed}
-use Rattle.mr_forms.specs.declared.run.Run.{Run}
+use Rattle.mr_session.proofs.Names.{AreCut, AuthorColumn, Extent, HasJust, Hole, IsAbove, IsClosed, IsExtended, IsGrowth, IsSame, IsTurned, Name, Run}
+use Rattle.mr_session.proofs.Names.{Versions, extent, gap, is_listed, list_any-append, with_last}
 use Rattle.mr_forms.specs.Runs.{with_run}
-use Rattle.mr_concise.specs.declared.vector.AuthorColumn.{AuthorColumn}
-use Rattle.mr_concise.specs.declared.column.Hole.{Hole}
-use Rattle.mr_concise.specs.Column.{Extent, gap}
-use Rattle.mr_session.specs.Held.{HasJust, AreCut}
 use Rattle.mr_session.proofs.RowLemmas.{in_row, listed_row}
-use Rattle.mr_session.specs.inner.Held.{extent, IsGrowth, with_last, IsAbove, IsClosed, IsTurned, IsExtended}
 use Rattle.mr_session.proofs.GrowLemmas.{below_higher, below_more, vector_more, has_more_column, last_empty, last_more, with_run_above, above_apart}
 
 pub closes_with : (columns : List AuthorColumn) (author : ℕ) (column : Extent) → IsGrowth columns author column → 1 ≤ column.upto → author < 64 → IsClosed columns author column (columns ++ (record { author = author; column = column }) ∷ [])

@@ -1,17 +1,8 @@
 -- What one version more, or one vector more, makes of the vectors that cut a list.
 use Rattle.std.proofs.Common.{◌≡◌, ◌≤◌, ◌<◌, ◌+◌, ℕ, zero, suc, Bool, false, ◌||◌, List, [], ◌∷◌, ◌++◌, map, length, get_or, drop, append_assoc, append-nil, drop-cons, length-append, refl, sym, ap, subst, ◌∙◌, inl, inr, arith}
-use Rattle.std.proofs.lemmas.Bool.{cases_lt}
-use Rattle.std.proofs.lemmas.List.{take-append-le, take_all}
-use Rattle.std.proofs.lemmas.List.Folds.{list_any-append}
-use Rattle.mr_version.specs.Name.{Name, name_eq}
-use Rattle.mr_forms.specs.Sets.{is_listed, IsSame, with_version}
+use Rattle.mr_session.proofs.Names.{AreCut, AuthorColumn, FitOneByOne, HasJust, HasTooManyHoles, IsAsLongAsCanBe, IsSame, IsVectorFrom, IsVectorOf, Name, Rev}
+use Rattle.mr_session.proofs.Names.{cases_lt, few-vector, is_listed, list_any-append, name_eq, take-append-le, take_all, vector_has, version_of, with_version}
 use Rattle.mr_forms.proofs.SetLemmas.{or_comm, or_nothing, name_eq-symmetric}
-use Rattle.mr_concise.specs.declared.vector.AuthorColumn.{AuthorColumn}
-use Rattle.mr_concise.specs.Vector.{vector_has, IsVectorFrom, IsVectorOf, HasTooManyHoles}
-use Rattle.mr_concise.proofs.VersionLemmas.{few-vector}
-use Rattle.mr_madewith.specs.Revision.{Rev}
-use Rattle.mr_store.specs.Revisions.{version_of}
-use Rattle.mr_session.specs.Held.{FitOneByOne, HasJust, IsAsLongAsCanBe, AreCut}
 
 -- a version more of a list is one more of its set
 pub listed_more : (front : List Name) (v w : Name) → is_listed (front ++ v ∷ []) w ≡ (name_eq v w || is_listed front w)

@@ -1,3 +1,4 @@
+pub mod Names
 pub mod SlotLemmas
 pub mod TableLemmas
 pub mod ViewLemmas

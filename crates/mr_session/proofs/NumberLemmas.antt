@@ -1,15 +1,8 @@
 -- The open numbers, by a sort of those that stand in the slots: two lists of numbers that do not fall are one where each function
 -- adds up to the same over both.
 use Rattle.std.proofs.Common.{◌≡◌, ◌≤◌, ◌<◌, ◌+◌, ℕ, zero, suc, nat_lt, cond, List, [], ◌∷◌, length, map, get_or, Option, Some, None, refl, ap, ◌∙◌, inl, inr, arith}
-use Rattle.std.specs.List.{sum_by}
-use Rattle.std.specs.List.Sorted.{IsNonDecreasing, IsPermutation}
-use Rattle.std.proofs.lemmas.Bool.{le-ltb, lt-ltb}
-use Rattle.std.proofs.lemmas.List.Sums.{sum_by-cons}
-use Rattle.std.proofs.lemmas.List.Sorted.{sum_by-IsPermutation}
-use Rattle.slab.specs.Slab.{Slab, entries, entries_from}
-use Rattle.mr_session.specs.declared.slots.Entry.{Entry}
-use Rattle.mr_session.specs.Table.{Numbered, RisesFrom}
-use Rattle.mr_session.specs.Slots.{put, by_number, AreSlots}
+use Rattle.mr_session.proofs.Names.{AreSlots, Entry, IsNonDecreasing, IsPermutation, Numbered, RisesFrom, Slab, by_number, entries, entries_from, le-ltb}
+use Rattle.mr_session.proofs.Names.{lt-ltb, put, sum_by, sum_by-IsPermutation, sum_by-cons}
 use Rattle.mr_session.proofs.TableLemmas.{lt_tells}
 use Rattle.mr_session.proofs.ViewLemmas.{table_of}
 

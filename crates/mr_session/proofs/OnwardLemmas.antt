@@ -1,13 +1,9 @@
 -- how a table goes on once a stream gave what it had prepared
 use Rattle.std.proofs.Common.{◌≡◌, ◌≤◌, ℕ, Bool, if◌then◌else◌, List, [], ◌∷◌, Option, Some, None, Result, Ok, Err, IfOk, refl, sym, ap, ◌∙◌, arith}
-use Rattle.std.proofs.lemmas.Bool.Decides.{eqb_tells}
-use Rattle.mr_store.specs.Holdings.{Holdings}
-use Rattle.mr_session.specs.Table.{Numbered, Table, IsTable, RisesFrom, at, open_at, with_closed, with_changed}
-use Rattle.mr_session.specs.Stream.{Stream, Gives, GivesIn, is_end}
-use Rattle.mr_session.specs.Onward.{after_given, is_last, gone_on, advanced}
+use Rattle.mr_session.proofs.Names.{Gives, GivesIn, Holdings, IsTable, Numbered, Prepared, RisesFrom, Stream, Table, advanced, after_given, at, eqb_tells}
+use Rattle.mr_session.proofs.Names.{gone_on, is_end, is_last, open_at, with_changed, with_closed}
 use Rattle.mr_session.specs.declared.outgoing.onward.Onward.{Onward}
 use Rattle.mr_session.specs.declared.outgoing.onward.Onward.TheVariants as onward
-use Rattle.mr_session.specs.declared.outgoing.onward.Prepared.{Prepared}
 
 module _ {T : Type 0} where
   -- nothing is under 0

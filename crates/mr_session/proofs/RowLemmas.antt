@@ -1,19 +1,8 @@
 -- Revisions at the front whose counters are in a row, and their versions as a run.
 use Rattle.std.proofs.Common.{◌≡◌, ◌≤◌, ◌<◌, ◌+◌, ◌-◌, ◌==◌, ◌&&◌, ◌||◌, nat_le, ℕ, zero, suc, Bool, true, false, List, [], ◌∷◌, ◌++◌, map, length, get_or, take, drop, refl, sym, ap, subst, ◌∙◌, ◌⊎◌, inl, inr, arith, Some}
-use Rattle.std.specs.List.{slice_get}
-use Rattle.std.specs.Ordering.{is_lt}
-use Rattle.std.proofs.lemmas.List.{take_more, map-append, get_or_default}
-use Rattle.std.proofs.lemmas.List.Folds.{list_any-append}
-use Rattle.std.proofs.lemmas.Bool.{cases_order, lt-leb, le-leb, ne_eqb, eq-eqb}
-use Rattle.std.proofs.lemmas.Bool.Decides.{nat_tests}
-use Rattle.mr_version.specs.Name.{Name, name_eq}
-use Rattle.mr_forms.specs.Sets.{is_listed}
-use Rattle.mr_concise.proofs.NameLemmas.{name_eq_parts}
-use Rattle.mr_madewith.specs.Revision.{Rev}
-use Rattle.mr_madewith.specs.Keyed.{is_before}
-use Rattle.mr_madewith.proofs.Rising.{head_before, tail_rises, same_names}
-use Rattle.mr_store.specs.Revisions.{AreInVersionOrder, version_of}
-use Rattle.mr_session.specs.inner.Held.{counter_on, IsRow, IsAbove}
+use Rattle.mr_session.proofs.Names.{AreInVersionOrder, IsAbove, IsRow, Name, Rev, cases_order, counter_on, eq-eqb, get_or_default, head_before, is_before}
+use Rattle.mr_session.proofs.Names.{is_listed, is_lt, le-leb, list_any-append, lt-leb, map-append, name_eq, name_eq_parts, nat_tests, ne_eqb, same_names}
+use Rattle.mr_session.proofs.Names.{slice_get, tail_rises, take_more, version_of}
 
 -- so many of the author's versions in a row
 abbrev pub in_row : (first : Name) → ℕ → List Name

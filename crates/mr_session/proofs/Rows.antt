@@ -1,22 +1,12 @@
 -- Worked rows of the definitions, computed.
 use Rattle.std.proofs.Common.{◌≡◌, ℕ, true, false, List, [], ◌∷◌, map, Option, Some, None, refl}
-use Rattle.mr_version.specs.Name.{Name}
-use Rattle.mr_concise.specs.declared.vector.AuthorColumn.{AuthorColumn}
+use Rattle.mr_session.proofs.Names.{AreCut, Asked, AuthorColumn, Body, Draws, End, Held, Holdings, Know, Mode, MoveOut, Name, Piece, Rev, Sent, Session}
+use Rattle.mr_session.proofs.Names.{Start, Stream, Table, after_record, claimed, column_has-empty, due, empty_table, first_fault, is_wanted, new_session}
+use Rattle.mr_session.proofs.Names.{new_stream, open_at, with_changed, with_closed, with_opened}
 use Rattle.mr_filter.specs.Filter.{ClauseParts}
-use Rattle.mr_madewith.specs.Revision.{Rev}
-use Rattle.mr_store.specs.Holdings.{Holdings}
-use Rattle.mr_wire.specs.Values.{Piece}
-use Rattle.mr_wire.specs.Frames.{Sent}
-use Rattle.mr_wire.specs.declared.frame.Body.{Body}
-use Rattle.mr_wire.specs.declared.frame.Body.TheVariants.{Start, MoveOut, Held, Know, End}
-use Rattle.mr_wire.specs.declared.frame.Mode.{Mode}
 use Rattle.mr_wire.specs.declared.frame.Mode.TheVariants.{Full, Partial}
-use Rattle.mr_concise.proofs.UnionLemmas.{column_has-empty}
-use Rattle.mr_session.specs.Held.{AreCut}
 use Rattle.mr_session.specs.Preparing.{is_copied}
-use Rattle.mr_session.specs.Session.{Session, new_session, first_fault, after_record}
-use Rattle.mr_session.specs.Stream.{Asked, Stream, claimed, due, told, is_wanted, new_stream, Draws}
-use Rattle.mr_session.specs.Table.{Table, empty_table, with_opened, with_closed, with_changed, open_at}
+use Rattle.mr_session.specs.Stream.{told}
 use Rattle.mr_session.specs.declared.fault.SessionFault.TheVariants.{NotStart, OtherStream, Repeated, Gap}
 use Rattle.mr_session.proofs.HeldLemmas.{has_none}
 use Rattle.mr_session.proofs.CutLemmas.{cut_unique}

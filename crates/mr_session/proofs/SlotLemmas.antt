@@ -1,12 +1,6 @@
 -- What stands under a number is read off the keys of a slab, where no number stands twice.
 use Rattle.std.proofs.Common.{◌≡◌, ◌≢◌, ◌⊎◌, ◌≤◌, ℕ, zero, suc, List, [], ◌∷◌, get_or, Option, Some, None, refl, sym, ap, ◌∙◌, inl, inr, arith}
-use Rattle.std.proofs.lemmas.Bool.{cases_eq}
-use Rattle.std.proofs.lemmas.Bool.Decides.{eqb_tells}
-use Rattle.slab.specs.Slab.{Slab, get, Updates}
-use Rattle.mr_session.specs.declared.slots.Entry.{Entry}
-use Rattle.mr_session.specs.inner.Slots.{with_at}
-use Rattle.mr_session.specs.Slots.{HasNumber, AreOnce, AreUpTo}
-use Rattle.mr_session.specs.inner.Slots.{value_in, value_at}
+use Rattle.mr_session.proofs.Names.{AreOnce, AreUpTo, Entry, HasNumber, Slab, Updates, cases_eq, eqb_tells, get, value_at, value_in, with_at}
 
 module _ {T : Type 0} where
   -- a slot with the number's entry, that has this value

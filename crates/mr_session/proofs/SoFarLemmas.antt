@@ -1,15 +1,8 @@
 -- A vector that grows by the runs of a list of revisions, in order: what is so far, and what each run makes of it.
 use Rattle.std.proofs.Common.{◌≡◌, ◌≤◌, ◌+◌, ◌-◌, ℕ, List, [], ◌∷◌, ◌++◌, map, length, take, drop, None, append_assoc, append-nil, refl, sym, ap, subst, ◌∙◌, arith}
-use Rattle.std.specs.List.{slice_get}
-use Rattle.mr_version.specs.Name.{Name}
-use Rattle.mr_forms.specs.declared.run.Run.{Run}
-use Rattle.mr_forms.specs.Sets.{IsSame, is_listed}
-use Rattle.mr_concise.specs.declared.vector.AuthorColumn.{AuthorColumn}
-use Rattle.mr_concise.specs.declared.column.Hole.{Hole}
-use Rattle.mr_madewith.specs.Revision.{Rev}
-use Rattle.mr_store.specs.Revisions.{AreInVersionOrder, version_of}
+use Rattle.mr_session.proofs.Names.{AreInVersionOrder, AuthorColumn, Hole, IsAbove, IsBelowFirst, IsExtended, IsGrowth, IsRow, IsSame, IsTurned, Name, Rev}
+use Rattle.mr_session.proofs.Names.{Run, extent, is_listed, slice_get, version_of, with_last}
 use Rattle.mr_session.proofs.RowLemmas.{in_row, row_names, next_above, names_split}
-use Rattle.mr_session.specs.inner.Held.{extent, with_last, IsRow, IsGrowth, IsAbove, IsBelowFirst, IsTurned, IsExtended}
 use Rattle.mr_session.proofs.GrowingLemmas.{row_listed}
 use Rattle.mr_session.proofs.WalkLemmas.{rest_of, drop_rises}
 

@@ -1,12 +1,8 @@
 -- Values under rising numbers. Such a list is told by what is under each number, so each change of it is shown by what
 -- it has under each.
 use Rattle.std.proofs.Common.{◌≡◌, ◌≢◌, ◌⊎◌, ◌≤◌, ◌<◌, ◌==◌, ℕ, suc, true, false, not, nat_lt, if◌then◌else◌, List, [], ◌∷◌, ◌++◌, length, map, filter, Option, Some, None, refl, sym, ap, ◌∙◌, inl, inr, arith}
-use Rattle.std.specs.Option.{option_map}
-use Rattle.std.proofs.lemmas.Bool.{cases_eq, ltb-true, ltb-false}
-use Rattle.std.proofs.lemmas.Bool.Decides.{eqb_tells}
-use Rattle.mr_session.specs.Table.{Numbered, Table, IsTable, at, open_at, changed, with_changed, RisesFrom, AreNumberedTo}
-use Rattle.mr_session.specs.Slots.{put}
-use Rattle.mr_session.specs.inner.Slots.{with_at}
+use Rattle.mr_session.proofs.Names.{AreNumberedTo, IsTable, Numbered, RisesFrom, Table, at, cases_eq, changed, eqb_tells, ltb-false, ltb-true, open_at}
+use Rattle.mr_session.proofs.Names.{option_map, put, with_at, with_changed}
 
 pub lt_tells : (a b : ℕ) → ((nat_lt a b ≡ true) × (a < b)) ⊎ ((nat_lt a b ≡ false) × (b ≤ a))
 lt_tells a b = grind (arith, ltb-true, ltb-false)

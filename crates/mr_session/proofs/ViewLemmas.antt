@@ -1,15 +1,8 @@
 -- A slab's values by rising number: a table's slots, as contracts see them.
 use Rattle.std.proofs.Common.{IsSome, Result, OnOk, OnErr, ◌≡◌, ◌≤◌, ◌<◌, ◌+◌, ◌==◌, ℕ, zero, suc, if◌then◌else◌, List, [], ◌∷◌, ◌++◌, length, map, get_or, Option, Some, None, is_some, count_by, cond, true, false, refl, sym, ap, ◌∙◌, inl, inr, arith}
-use Rattle.std.specs.Option.{option_map}
-use Rattle.std.proofs.lemmas.Bool.Decides.{eqb_tells}
-use Rattle.std.proofs.lemmas.List.Sums.{sum_by-cons}
-use Rattle.std.specs.List.{AllZip}
-use Rattle.slab.specs.Slab.{Slab, slab_len, IsSlotClone}
-use Rattle.mr_session.specs.declared.slots.Entry.{Entry}
-use Rattle.mr_session.specs.Table.{Numbered, at, open_at, changed, RisesFrom, AreNumberedTo, Table, IsTable}
+use Rattle.mr_session.proofs.Names.{AllZip, AreNumberedTo, AreOnce, AreSlots, AreUpTo, Entry, HasNumber, IsSlotClone, IsTable, Numbered, RisesFrom, Slab}
+use Rattle.mr_session.proofs.Names.{Table, at, by_number, changed, eqb_tells, open_at, option_map, slab_len, sum_by-cons, value_at, value_in, with_at}
 use Rattle.mr_session.specs.declared.limits.TheConstants.{MAX_OPEN}
-use Rattle.mr_session.specs.Slots.{HasNumber, AreOnce, AreUpTo, AreSlots, by_number}
-use Rattle.mr_session.specs.inner.Slots.{value_in, value_at, with_at}
 use Rattle.mr_session.proofs.SlotLemmas.{has_found, none_at}
 use Rattle.mr_session.proofs.TableLemmas.{same_list, at_put, rises_put, length-put, numbered-put, others, at-others, rises-others, at-behind, rises-behind, at-changed, rises-changed}
 

@@ -1,22 +1,11 @@
 -- A walk over two lists in version order, from a version on.
 use Rattle.std.proofs.Common.{◌≡◌, ◌≤◌, ◌<◌, ◌==◌, ℕ, zero, suc, Bool, true, false, not, List, [], ◌∷◌, map, length, get_or, take, ◌-◌, drop, filter, find, Option, Some, None, refl, sym, ap, subst, ◌∙◌, arith}
 use Rattle.std.specs.declared.cmp.Ordering.{Ordering}
-use Rattle.std.specs.declared.cmp.Ordering.TheVariants.{Less}
-use Rattle.std.specs.Ordering.{is_lt, is_le, ordering_reverse}
-use Rattle.std.specs.List.{AllByRecursion, slice_get}
-use Rattle.std.specs.List.Sorted.{IsPartitionPoint}
+use Rattle.mr_session.proofs.Names.{AllByRecursion, AreInVersionOrder, Asked, IsPartitionPoint, Less, Name, Rev, all_after, cases_order, claimed, head_before}
+use Rattle.mr_session.proofs.Names.{is_ahead, is_before, is_due, is_le, is_lt, is_wanted, length-drop, lower, name_cmp, nat_tests, ordering_reverse, ranks_by}
+use Rattle.mr_session.proofs.Names.{sides_of, slice_get, sorted_by_name, sorted_far, tail_rises, version_of}
 use Rattle.std.proofs.Math.Seq.{take-length}
-use Rattle.std.proofs.lemmas.List.{length-drop}
-use Rattle.std.proofs.lemmas.List.Sorted.{sorted_far, ranks_by}
-use Rattle.std.proofs.lemmas.Bool.{cases_order}
-use Rattle.std.proofs.lemmas.Bool.Decides.{nat_tests}
-use Rattle.mr_version.specs.Name.{Name, name_cmp}
 use Rattle.mr_version.specs.Order.{names_total}
-use Rattle.mr_madewith.specs.Revision.{Rev}
-use Rattle.mr_madewith.specs.Keyed.{is_before}
-use Rattle.mr_madewith.proofs.Rising.{sides_of, head_before, tail_rises, all_after, sorted_by_name}
-use Rattle.mr_store.specs.Revisions.{AreInVersionOrder, version_of}
-use Rattle.mr_session.specs.Stream.{Asked, claimed, is_wanted, is_ahead, is_due, lower}
 use Rattle.mr_session.specs.inner.Merge.{is_left_first}
 
 -- ---- those ahead

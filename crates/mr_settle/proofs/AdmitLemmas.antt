@@ -1,16 +1,8 @@
 -- What a replica that replayed a beginning of a log does with the next event.
 use Rattle.std.proofs.Common.{◌≡◌, ◌≢◌, ℕ, List, [], ◌∷◌, ◌++◌, Result, Ok, Err, refl, subst}
-use Rattle.mr_filter.specs.Filter.{ClauseParts}
-use Rattle.mr_forms.specs.ByMeaning.{IsByMeaning}
-use Rattle.mr_forms.specs.Known.{Form}
-use Rattle.mr_replica.specs.State.{State}
-use Rattle.mr_replica.specs.Step.{Steps}
-use Rattle.mr_replica.specs.Replay.{Admits, AdmitsAll, Replays}
+use Rattle.mr_settle.proofs.Names.{Admits, AdmitsAll, ClauseParts, Form, IsByMeaning, OutOfMemory, Refusal, Replays, Reply, State, Steps, alike_all}
+use Rattle.mr_settle.proofs.Names.{alike_fresh, alike_step}
 use Rattle.mr_replica.specs.declared.event.Event.{Event}
-use Rattle.mr_replica.specs.declared.event.Reply.{Reply}
-use Rattle.mr_replica.specs.declared.refusal.Refusal.{Refusal}
-use Rattle.mr_replica.specs.declared.refusal.Refusal.TheVariants.{OutOfMemory}
-use Rattle.mr_replica.proofs.Alike.{alike_step, alike_all, alike_fresh}
 
 no_refusal : (r : Reply) (e : Refusal) → (let answer : Result Reply Refusal = Ok r in answer ≡ Err e) → ⊥
 no_refusal r e is = cc

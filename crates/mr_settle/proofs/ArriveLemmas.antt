@@ -1,33 +1,11 @@
 -- Where no end can go on: all logs are done, or the history is stuck.
 use Rattle.std.proofs.Common.{◌≡◌, ◌≤◌, ◌<◌, refl, sym, ap, subst, ◌∙◌, ◌+◌, cond, nat_lt, arith, ℕ, zero, suc, Bool, true, false, List, [], ◌∷◌, ◌++◌, length, take, drop, Option, Some, None, Result, IfOk, inl, inr, below_more, le_of_eq}
-use Rattle.std.specs.Prelude.{All}
-use Rattle.std.specs.List.{slice_get}
-use Rattle.std.specs.Option.{option_map}
-use Rattle.std.proofs.lemmas.Bool.{cases_lt, ltb-true, ltb-false}
-use Rattle.std.proofs.lemmas.List.{take_all, take-append-drop, length-take-le}
-use Rattle.std.proofs.lemmas.Option.{slice_get-map, slice_get_within}
-use Rattle.mr_forms.specs.Known.{Form}
-use Rattle.mr_mail.specs.Mail.{Mail}
-use Rattle.mr_model.specs.History.{◌does◌}
-use Rattle.mr_model.specs.Rules.{In}
-use Rattle.mr_model.specs.declared.event.Act.{Act}
-use Rattle.mr_model.specs.declared.event.Event.{Event}
-use Rattle.mr_replica.specs.State.{State}
-use Rattle.mr_replica.specs.Replay.{Replays, IsItsLog}
+use Rattle.mr_settle.proofs.Names.{Act, All, AreNoLower, Event, Explains, FindsLeft, FindsLeftAt, FindsLeftTo, FindsReady, Form, GivenNumbers, HasLeft, In}
+use Rattle.mr_settle.proofs.Names.{IsByMeaning, IsFirstReady, IsItsLog, IsLeftAt, IsNext, IsOneInWorld, IsReady, IsUnderWay, Mail, Names, Progress, Ready}
+use Rattle.mr_settle.proofs.Names.{Replays, Rests, State, TellAll, WorldView, alike_replays, cases_lt, done_of, length-take-le, log_in, lower_of, ltb-false}
+use Rattle.mr_settle.proofs.Names.{ltb-true, option_map, replica_at, slice_get, slice_get-map, slice_get_within, take-append-drop, take_all, ◌does◌}
 use Rattle.mr_replica.specs.declared.event.Event.{Event as ReplicaEvent}
-use Rattle.mr_world.specs.Kept.{WorldView, replica_at}
-use Rattle.mr_forms.specs.ByMeaning.{IsByMeaning}
-use Rattle.mr_replica.proofs.Alike.{alike_replays}
-use Rattle.mr_settle.specs.History.{log_in}
-use Rattle.mr_settle.specs.Explains.{Explains}
 use Rattle.mr_settle.specs.Stuck.{Waits, IsBehind, HasEventsLeft, IsStuck}
-use Rattle.mr_settle.specs.inner.Named.{GivenNumbers, Names}
-use Rattle.mr_settle.specs.inner.Ready.{IsNext, IsReady, Rests, IsFirstReady, FindsReady}
-use Rattle.mr_settle.specs.declared.ready.Ready.{Ready}
-use Rattle.mr_settle.specs.inner.Carried.{done_of}
-use Rattle.mr_settle.specs.declared.progress.Progress.{Progress}
-use Rattle.mr_settle.specs.inner.Way.{TellAll, IsUnderWay}
-use Rattle.mr_settle.specs.inner.Arrived.{IsLeftAt, HasLeft, AreNoLower, FindsLeftTo, FindsLeftAt, FindsLeft, lower_of, IsOneInWorld}
 use Rattle.mr_settle.proofs.ListLemmas.{some_one, all_places, get_there, get_all, first_of}
 
 -- ---- what is left of a log

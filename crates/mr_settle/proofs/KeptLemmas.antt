@@ -1,30 +1,16 @@
 -- What a world promises holds of replicas that are equal to its own.
 use Rattle.std.proofs.Common.{◌≡◌, ◌≢◌, ◌⊎◌, inl, inr, refl, sym, ap, subst, ◌∙◌, cond, ℕ, Bool, true, false, List, [], ◌∷◌, Option, Some, None, is_none, find, map, ◌==◌, eqb-true, arith}
-use Rattle.std.specs.Prelude.{IsTrue, All, is_some}
-use Rattle.std.proofs.lemmas.Bool.{true≢false}
-use Rattle.std.proofs.lemmas.List.Elements.{All-head, All-tail, All-nil, All-cons}
-use Rattle.mr_version.specs.Name.{Name}
-use Rattle.mr_filter.specs.Filter.{ClauseParts}
-use Rattle.mr_forms.specs.Known.{Form}
-use Rattle.mr_mail.specs.Mail.{Mail, MailCard}
+use Rattle.mr_settle.proofs.Names.{All, All-cons, All-head, All-nil, All-tail, ClauseParts, Entry, Explains, Form, HasHead, HasHeadline, Holds, In}
+use Rattle.mr_settle.proofs.Names.{IsHeldBySome, IsItsLog, IsNewest, IsOneInWorld, IsTrue, KeepTogether, Keeps, KnowsAllOf, Mail, MailCard, MemberView, Name}
+use Rattle.mr_settle.proofs.Names.{Promises, State, WorldView, filters_of, is_some, member_at, moment_of, replica_at, selection, setting_in, setting_of}
+use Rattle.mr_settle.proofs.Names.{true≢false}
 use Rattle.mr_model.specs.Headline.{EachPair, InIssueOrder, IsCurrent, IsSoundHolding, added}
 use Rattle.mr_model.specs.Laws.{KnowsDownward}
 use Rattle.mr_model.proofs.Basics.{is_refl}
-use Rattle.mr_model.specs.History.{Entry}
-use Rattle.mr_model.specs.Moment.{selection, Holds}
-use Rattle.mr_model.specs.Rules.{In}
 use Rattle.mr_model.specs.Versions.{Issue, IsSuperseded, is, is_issued, item_of}
-use Rattle.mr_replica.specs.State.{State}
-use Rattle.mr_replica.specs.Replay.{IsItsLog}
 use Rattle.mr_madewith.specs.Revision.{Rev}
 use Rattle.mr_store.specs.Revisions.{holds, revision_of}
 use Rattle.mr_world.specs.Agrees.{HoldingsAgree}
-use Rattle.mr_world.specs.Kept.{WorldView, MemberView, member_at, replica_at}
-use Rattle.mr_world.specs.Promise.{HasHeadline, Promises, filters_of, setting_in, moment_of}
-use Rattle.mr_world.specs.Seen.{setting_of}
-use Rattle.mr_settle.specs.Kept.{IsNewest, HasHead, KnowsAllOf, IsHeldBySome, KeepTogether, Keeps}
-use Rattle.mr_settle.specs.Explains.{Explains}
-use Rattle.mr_settle.specs.inner.Arrived.{IsOneInWorld}
 use Rattle.mr_settle.proofs.MoveLemmas.{there_if}
 use Rattle.mr_settle.proofs.MomentLemmas.{nothing_held}
 use Rattle.mr_settle.proofs.RetireLemmas.{none_after}

@@ -1,9 +1,6 @@
 -- Places of lists.
 use Rattle.std.proofs.Common.{◌≡◌, ◌≢◌, ◌<◌, refl, sym, ap, subst, ◌∙◌, ◌+◌, arith, ℕ, zero, suc, List, [], ◌∷◌, ◌++◌, length, take, drop, Option, Some}
-use Rattle.std.specs.Prelude.{slice_set, All, get_or}
-use Rattle.std.specs.List.{slice_get, AllZip}
-use Rattle.std.proofs.lemmas.List.Elements.{All-nil, All-cons, All-head, All-tail}
-use Rattle.std.proofs.lemmas.Option.{none-some, same_Some}
+use Rattle.mr_settle.proofs.Names.{All, All-cons, All-head, All-nil, All-tail, AllZip, get_or, none-some, same_Some, slice_get, slice_set}
 
 -- an option has one value
 pub some_one : {A : Type 0} (x y : A) (o : Option A) → o ≡ Some x → o ≡ Some y → x ≡ y

@@ -1,28 +1,12 @@
 -- What the history says of logs, as it grows by one event.
 use Rattle.std.proofs.Common.{◌≡◌, ◌≢◌, ◌==◌, refl, sym, ap, subst, ◌∙◌, ℕ, Bool, true, false, cond, List, [], ◌∷◌, ◌++◌, Option, Some, None, Ok, eq-eqb, append-nil, arith}
-use Rattle.std.specs.Prelude.{is_none, is_some, IsSome, All}
-use Rattle.std.specs.List.{filter_map, cons_option}
-use Rattle.std.specs.Option.{option_and_then, option_map}
-use Rattle.std.proofs.lemmas.Bool.{ne_eqb}
-use Rattle.std.proofs.lemmas.List.Elements.{filter_map-append, All-head, All-tail, All-push, All-weaker}
-use Rattle.mr_mail.specs.Mail.{Mail}
-use Rattle.mr_model.specs.Moment.{numbered}
-use Rattle.mr_model.specs.declared.event.Act.{Act}
+use Rattle.mr_settle.proofs.Names.{Act, All, All-head, All-push, All-tail, All-weaker, Answer, Answered, Event, Grew, IsSome, Mail, OnlyAdmits, Reply}
+use Rattle.mr_settle.proofs.Names.{Stepped, Task, WorldView, admitted, admitted_at, answered, answering, asked_in, cons_option, delivering, filter_map}
+use Rattle.mr_settle.proofs.Names.{filter_map-append, is_none, is_some, log_in, ne_eqb, numbered, option_and_then, option_map, receiving, releasing}
 use Rattle.mr_model.specs.declared.event.Act.TheVariants as act
-use Rattle.mr_model.specs.declared.event.Event.{Event}
 use Rattle.mr_replica.specs.declared.event.Event.{Event as ReplicaEvent}
-use Rattle.mr_replica.specs.declared.event.Reply.{Reply}
-use Rattle.mr_world.specs.Asked.{answering, delivering, receiving, releasing}
-use Rattle.mr_world.specs.Kept.{WorldView}
-use Rattle.mr_world.specs.Run.{answered, asked_in}
-use Rattle.mr_world.specs.declared.answer.Answer.{Answer}
-use Rattle.mr_world.specs.declared.answer.Answer.TheVariants.{Stepped}
-use Rattle.mr_world.specs.declared.answered.Answered.{Answered}
-use Rattle.mr_world.specs.declared.task.Task.{Task}
 use Rattle.mr_world.specs.declared.task.Task.TheVariants.{Step}
-use Rattle.mr_settle.specs.inner.Numbers.{Grew}
 use Rattle.mr_settle.proofs.PoolLemmas.{number_stays}
-use Rattle.mr_settle.specs.History.{admitted, admitted_at, log_in, OnlyAdmits}
 
 filter_map-same : {A B : Type 0} (f g : A → Option B) (xs : List A) → All (λ x. f x ≡ g x) xs → filter_map f xs ≡ filter_map g xs
 filter_map-same f g [] h = refl

@@ -1,28 +1,13 @@
 -- Of an id that no replica of a world has, nothing is held in its history.
 use Rattle.std.proofs.Common.{◌≡◌, ◌≢◌, inl, inr, refl, sym, ap, subst, ◌∙◌, ℕ, false, List, [], ◌∷◌, Option, None, is_none, find, ◌==◌, arith}
-use Rattle.std.specs.Prelude.{All}
-use Rattle.std.proofs.lemmas.Bool.{both_ways}
-use Rattle.std.proofs.lemmas.List.Elements.{All-weaker, All-head, All-tail, All-nil, All-cons, All-append}
-use Rattle.mr_version.specs.Name.{Name}
-use Rattle.mr_filter.specs.Filter.{ClauseParts}
-use Rattle.mr_forms.specs.Known.{Form}
-use Rattle.mr_mail.specs.Mail.{Mail, MailCard}
+use Rattle.mr_settle.proofs.Names.{Act, All, All-append, All-cons, All-head, All-nil, All-tail, All-weaker, Answer, Answered, ClauseParts, Event, Form}
+use Rattle.mr_settle.proofs.Names.{Happens, Holding, Holds, IsWorldOf, Leads, Mail, MailCard, MailMoment, MailSetting, MemberView, Name, State, WorldView}
+use Rattle.mr_settle.proofs.Names.{answered, both_ways, filters_of, ids_of, member_at, moment_of, numbered, setting_of, start}
 use Rattle.mr_model.specs.Changes.{Reception.AsTaken, Reception.AsKnown, Reception.AsFinished, Change, Change.Issues, Change.Opens, Change.Releases, Change.Takes, change, change_by_reply, change_of, change_if_found, happens, after}
 use Rattle.mr_model.specs.History as model
-use Rattle.mr_model.specs.Moment.{Holding, Holds, numbered, start}
-use Rattle.mr_model.specs.declared.event.Act.{Act}
 use Rattle.mr_model.specs.declared.event.Act.TheVariants as act
-use Rattle.mr_model.specs.declared.event.Event.{Event}
-use Rattle.mr_replica.specs.State.{State}
-use Rattle.mr_world.specs.Kept.{WorldView, MemberView, member_at}
-use Rattle.mr_world.specs.Promise.{filters_of, moment_of}
-use Rattle.mr_world.specs.Run.{Happens, Leads, answered, ids_of}
 use Rattle.mr_world.specs.Runs.{history_from, seen_step}
-use Rattle.mr_world.specs.Seen.{MailMoment, MailSetting, setting_of}
-use Rattle.mr_world.specs.declared.answer.Answer.{Answer}
-use Rattle.mr_world.specs.declared.answered.Answered.{Answered}
 use Rattle.mr_world.proofs.Groundwork.AtPlaces.{at_other}
-use Rattle.mr_settle.specs.History.{IsWorldOf}
 use Rattle.mr_settle.proofs.MoveLemmas.{there_if}
 
 -- ---- a change is of one replica

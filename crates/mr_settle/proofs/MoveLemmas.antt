@@ -1,26 +1,11 @@
 -- What becomes of a world by one event of one of its replicas.
 use Rattle.std.proofs.Common.{◌≡◌, ◌≢◌, ◌==◌, refl, sym, ap, subst, ◌∙◌, ℕ, List, [], ◌∷◌, Some, Result, Ok, Err, inl, inr, arith}
-use Rattle.std.specs.Prelude.{is_none, find}
-use Rattle.std.specs.Option.{option_map}
-use Rattle.mr_forms.specs.Known.{Form}
-use Rattle.mr_mail.specs.Mail.{Mail}
-use Rattle.mr_model.specs.declared.event.Event.{Event}
-use Rattle.mr_replica.specs.State.{State}
-use Rattle.mr_replica.specs.Step.{Steps}
+use Rattle.mr_settle.proofs.Names.{Answer, Becomes, Event, Form, Grew, Happens, Mail, MemberView, OutOfMemory, Question, Receipt, Refusal, Reply, Sent, State}
+use Rattle.mr_settle.proofs.Names.{Stepped, Steps, WorldView, find, given_in, ids_of, is_none, member_at, option_map, replica_at}
 use Rattle.mr_replica.specs.declared.event.Event.{Event as ReplicaEvent}
-use Rattle.mr_replica.specs.declared.event.Reply.{Reply}
 use Rattle.mr_replica.specs.declared.event.Reply.TheVariants as reply
-use Rattle.mr_replica.specs.declared.refusal.Refusal.{Refusal}
-use Rattle.mr_replica.specs.declared.refusal.Refusal.TheVariants.{OutOfMemory}
-use Rattle.mr_wire.specs.Frames.{Question, Sent}
-use Rattle.mr_wire.specs.declared.frame.Receipt.{Receipt}
 use Rattle.mr_world.specs.Does.{StepsTo}
 use Rattle.mr_world.specs.Given.{GivenLists, with_given}
-use Rattle.mr_world.specs.Kept.{WorldView, MemberView, given_in, member_at, replica_at}
-use Rattle.mr_world.specs.Run.{Becomes, Happens, ids_of}
-use Rattle.mr_world.specs.declared.answer.Answer.{Answer}
-use Rattle.mr_world.specs.declared.answer.Answer.TheVariants.{Stepped}
-use Rattle.mr_settle.specs.inner.Numbers.{Grew}
 use Rattle.mr_settle.proofs.ListLemmas.{some_one}
 use Rattle.mr_settle.proofs.NamedLemmas.{IsNamed}
 

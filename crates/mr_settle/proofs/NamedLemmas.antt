@@ -1,30 +1,14 @@
 -- The act that is named for a log's event asks for just that, and where none is named no act does.
 use Rattle.std.proofs.Common.{◌≡◌, refl, sym, ap, subst, ◌∙◌, cond, ℕ, Bool, true, false, List, Option, Some, None, arith}
-use Rattle.std.specs.Prelude.{nat_lt}
-use Rattle.std.specs.Option.{IsSomeAnd, MatchOption, option_map}
-use Rattle.mr_mail.specs.Mail.{Mail}
-use Rattle.mr_model.specs.Moment.{numbered}
-use Rattle.mr_model.specs.Rules.{In}
-use Rattle.mr_model.specs.declared.event.Act.{Act}
+use Rattle.mr_settle.proofs.Names.{Act, AsksFor, Event, Frame, GivenNumbers, HasBytes, In, IsSomeAnd, Mail, MatchOption, Names, Numbering, Question, Receipt}
+use Rattle.mr_settle.proofs.Names.{Sent, Task, TellAll, Tells, WorldView, answering, asked, asked_in, carried, delivering, found_in, nat_lt, numbered}
+use Rattle.mr_settle.proofs.Names.{option_map, receiving, record_len, releasing, spelled_once}
 use Rattle.mr_model.specs.declared.event.Act.TheVariants as act
-use Rattle.mr_model.specs.declared.event.Event.{Event}
 use Rattle.mr_model.proofs.Sets.{numbered_in}
 use Rattle.mr_replica.specs.declared.event.Event.{Event as ReplicaEvent}
 use Rattle.mr_replica.specs.declared.event.Event.TheVariants as replica
-use Rattle.mr_wire.specs.Frames.{Question, Sent}
-use Rattle.mr_wire.specs.declared.frame.Frame.{Frame}
 use Rattle.mr_wire.specs.declared.frame.Frame.TheVariants as frame
-use Rattle.mr_wire.specs.declared.frame.Receipt.{Receipt}
-use Rattle.mr_wire.proofs.DecodeLaws.{spelled_once}
-use Rattle.mr_world.specs.Asked.{asked, answering, delivering, receiving, record_len, releasing}
-use Rattle.mr_world.specs.Kept.{WorldView}
-use Rattle.mr_world.specs.Run.{asked_in}
-use Rattle.mr_world.specs.declared.task.Task.{Task}
 use Rattle.mr_world.specs.declared.task.Task.TheVariants as task
-use Rattle.mr_settle.specs.inner.Carried.{HasBytes, carried}
-use Rattle.mr_settle.specs.inner.Named.{AsksFor, GivenNumbers, Names}
-use Rattle.mr_settle.specs.inner.Numbers.{Numbering, Tells, found_in}
-use Rattle.mr_settle.specs.inner.Way.{TellAll}
 use Rattle.mr_settle.proofs.PoolLemmas.{one_spelled}
 
 -- ---- a frame is of one thing

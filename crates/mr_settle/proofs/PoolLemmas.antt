@@ -1,17 +1,9 @@
 -- The numbers of a pool that grows.
 use Rattle.std.proofs.Common.{◌≡◌, ◌≢◌, ◌≤◌, refl, sym, ap, subst, ◌∙◌, ◌+◌, ◌==◌, arith, ℕ, Bool, true, false, List, [], ◌∷◌, length, Option, Some, None, inl, inr, ◌⊎◌, eqb-true, eq-eqb}
-use Rattle.std.specs.Prelude.{is_none}
-use Rattle.mr_model.specs.Moment.{numbered}
-use Rattle.mr_model.specs.Rules.{In}
+use Rattle.mr_settle.proofs.Names.{Frame, Grew, In, KeepsUp, Numbering, Puts, Tells, begins_no_other, both_ways, bytes_eq, bytes_eq-Decides, is_none, ne_eqb}
+use Rattle.mr_settle.proofs.Names.{no_numbers, none-some, numbered, same_Some}
 use Rattle.mr_wire.specs.Grammar.{Spells}
-use Rattle.mr_wire.specs.declared.frame.Frame.{Frame}
-use Rattle.mr_wire.proofs.DecodeLaws.{begins_no_other}
-use Rattle.std.specs.Str.{bytes_eq}
-use Rattle.std.proofs.lemmas.Bool.{both_ways, ne_eqb}
-use Rattle.std.proofs.lemmas.Option.{none-some, same_Some}
-use Rattle.std.proofs.lemmas.Slice.Eq.{bytes_eq-Decides}
 use Rattle.mr_world.specs.Pool.{GivesFrame}
-use Rattle.mr_settle.specs.inner.Numbers.{Numbering, Puts, Tells, KeepsUp, Grew, no_numbers}
 
 same_bytes : (a b : List ℕ) → (a ≡ b) ⊎ (a ≢ b)
 same_bytes a b = by (bytes_eq a b) refl

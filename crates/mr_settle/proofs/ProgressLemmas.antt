@@ -1,12 +1,6 @@
 -- How far logs have come, place by place.
 use Rattle.std.proofs.Common.{◌≡◌, refl, sym, ap, subst, ◌∙◌, ℕ, zero, suc, List, [], ◌∷◌, length, map, Some}
-use Rattle.std.specs.Prelude.{slice_set}
-use Rattle.std.specs.List.{slice_get, AllZip}
-use Rattle.std.proofs.lemmas.List.{map-set}
-use Rattle.std.proofs.lemmas.Option.{none-some}
-use Rattle.mr_replica.specs.State.{State}
-use Rattle.mr_settle.specs.declared.progress.Progress.{Progress}
-use Rattle.mr_settle.specs.inner.Carried.{IsUpToDate, AreAtStart, done_of}
+use Rattle.mr_settle.proofs.Names.{AllZip, AreAtStart, IsUpToDate, Progress, State, done_of, map-set, none-some, slice_get, slice_set}
 use Rattle.mr_settle.proofs.ListLemmas.{some_one}
 
 module _ {A B : Type 0} (f : A → B) where

@@ -1,17 +1,11 @@
 -- A replica that has retired tells nothing more.
 use Rattle.std.proofs.Common.{◌≡◌, refl, ap, subst, ◌∙◌, true, List, [], ◌∷◌, ◌++◌, Option, Some, None, Result, Ok, Err, arith}
-use Rattle.mr_forms.specs.Known.{Form}
-use Rattle.mr_replica.specs.State.{State}
-use Rattle.mr_replica.specs.Step.{first_refusal, Changes, Answers, Steps}
-use Rattle.mr_replica.specs.Replay.{Admits, AdmitsAll, IsItsLog}
+use Rattle.mr_settle.proofs.Names.{Admits, AdmitsAll, Answers, Changes, Form, HadTold, IsItsLog, Refusal, Reply, State, Steps, first_refusal}
 use Rattle.mr_replica.specs.declared.event.Event.{Event}
 use Rattle.mr_replica.specs.declared.event.Event.TheVariants.{Retire, Receive, Answer, Next, CutOut}
-use Rattle.mr_replica.specs.declared.event.Reply.{Reply}
 use Rattle.mr_replica.specs.declared.event.Reply.TheVariants as reply
-use Rattle.mr_replica.specs.declared.refusal.Refusal.{Refusal}
 use Rattle.mr_replica.specs.declared.refusal.Refusal.TheVariants as refusal
 use Rattle.mr_wire.specs.declared.frame.Frame.TheVariants as frame
-use Rattle.mr_settle.specs.Kept.{HadTold}
 use Rattle.mr_settle.proofs.AdmitLemmas.{split_all}
 
 -- the same feed, and the replica is retired

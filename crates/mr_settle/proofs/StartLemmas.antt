@@ -1,18 +1,8 @@
 -- Specifications of replicas that have ids of their own are not refused.
 use Rattle.std.proofs.Common.{◌≡◌, ◌≢◌, refl, sym, ap, ◌∙◌, ◌==◌, ◌||◌, ◌↔◌, arith, ℕ, Bool, true, false, List, [], ◌∷◌, None, IsTrue, not, eqb-true}
-use Rattle.std.specs.Prelude.{All}
-use Rattle.std.specs.List.{list_any, AllZip}
-use Rattle.std.proofs.lemmas.Bool.{eqb-false, le-ltb, ne_eqb}
-use Rattle.std.proofs.lemmas.List.Elements.{All-nil, All-cons, All-head, All-tail}
+use Rattle.mr_settle.proofs.Names.{All, All-cons, All-head, All-nil, All-tail, AllPairs-head, AllPairs-tail, AllZip, AreDistinct, HasGoodLimit, IsSpecOf}
+use Rattle.mr_settle.proofs.Names.{Spec, State, eqb-false, has_bad_capacity, has_bad_limit, has_same_id, le-ltb, list_any, ne_eqb, share_id, spec_refusal}
 use Rattle.std.proofs.lemmas.List.Kept.{AllPairs-cons}
-use Rattle.mr_forms.proofs.PartLemmas.{AllPairs-head, AllPairs-tail}
-use Rattle.mr_replica.specs.State.{State}
-use Rattle.mr_world.specs.Made.{has_same_id, has_bad_limit, has_bad_capacity, spec_refusal}
-use Rattle.mr_world.specs.declared.spec.Spec.{Spec}
-use Rattle.mr_settle.specs.History.{IsSpecOf}
-use Rattle.mr_settle.specs.Explains.{AreDistinct}
-use Rattle.mr_settle.specs.inner.Explains.{share_id}
-use Rattle.mr_settle.specs.inner.Way.{HasGoodLimit}
 
 limit_good : (spec : Spec) → HasGoodLimit spec → has_bad_limit spec ≡ false
 limit_good spec h = grind (arith, ne_eqb, le-ltb)

@@ -1,42 +1,14 @@
 -- How a world comes along the logs, event by event.
 use Rattle.std.proofs.Common.{◌≡◌, ◌≢◌, ◌<◌, refl, sym, ap, subst, ◌∙◌, ◌+◌, ◌==◌, arith, ℕ, zero, suc, true, false, List, [], ◌∷◌, ◌++◌, length, map, take, Option, Some, None, Result, Ok, inl, inr, ◌⊎◌, eq-eqb}
-use Rattle.std.specs.Prelude.{slice_set, All, IsSome, is_none}
-use Rattle.std.specs.List.{slice_get, AllZip}
-use Rattle.std.specs.Option.{option_map}
-use Rattle.std.proofs.lemmas.Bool.{cases_eq, ne_eqb}
-use Rattle.std.proofs.lemmas.List.{length-set}
-use Rattle.std.proofs.lemmas.List.Elements.{All-nil}
-use Rattle.std.proofs.lemmas.Option.{none-some, slice_get_within}
-use Rattle.mr_filter.specs.Filter.{ClauseParts}
-use Rattle.mr_forms.specs.ByMeaning.{IsByMeaning}
-use Rattle.mr_forms.specs.Known.{Form}
-use Rattle.mr_forms.proofs.PartLemmas.{AllPairs-head, AllPairs-tail}
-use Rattle.mr_mail.specs.Mail.{Mail}
-use Rattle.mr_model.specs.declared.event.Event.{Event}
-use Rattle.mr_replica.specs.State.{State, new_state}
-use Rattle.mr_replica.specs.Step.{Steps}
-use Rattle.mr_replica.specs.Replay.{IsFresh, Replays, IsItsLog}
+use Rattle.mr_settle.proofs.Names.{All, All-nil, AllPairs-head, AllPairs-tail, AllZip, Answer, AreDistinct, ClauseParts, Event, Form, GivenNumbers, Grew}
+use Rattle.mr_settle.proofs.Names.{Happens, HappensSo, IsAt, IsByMeaning, IsFresh, IsItsLog, IsMadeOf, IsNext, IsReady, IsSome, IsSpecOf, IsStartOf}
+use Rattle.mr_settle.proofs.Names.{IsUnderWay, IsWorldOf, Leads, Mail, MemberView, NotesNewest, OnlyAdmits, Progress, Ready, Refusal, Replays, Reply, Spec}
+use Rattle.mr_settle.proofs.Names.{State, Stepped, Steps, Task, TellAll, WorldView, admitted_at, asked_in, cases_eq, done_of, ids_of, is_none, left_over}
+use Rattle.mr_settle.proofs.Names.{length-set, log_in, member_at, ne_eqb, new_state, none-some, nothing_given, option_map, replica_at, slice_get}
+use Rattle.mr_settle.proofs.Names.{slice_get_within, slice_set, stop_fault}
 use Rattle.mr_replica.specs.declared.event.Event.{Event as ReplicaEvent}
-use Rattle.mr_replica.specs.declared.event.Reply.{Reply}
-use Rattle.mr_replica.specs.declared.refusal.Refusal.{Refusal}
-use Rattle.mr_world.specs.Kept.{WorldView, MemberView, member_at, replica_at}
-use Rattle.mr_world.specs.Made.{IsMadeOf}
-use Rattle.mr_world.specs.Run.{Happens, Leads, asked_in, ids_of, stop_fault}
-use Rattle.mr_world.specs.declared.answer.Answer.{Answer}
-use Rattle.mr_world.specs.declared.answer.Answer.TheVariants.{Stepped}
-use Rattle.mr_world.specs.declared.task.Task.{Task}
-use Rattle.mr_world.specs.declared.spec.Spec.{Spec}
 use Rattle.mr_settle.proofs.AdmitLemmas.{next_admitted, replays_more}
-use Rattle.mr_settle.specs.inner.Numbers.{Grew}
 use Rattle.mr_settle.proofs.PoolLemmas.{nothing_told, tells_on}
-use Rattle.mr_settle.specs.History.{admitted_at, log_in, OnlyAdmits, IsSpecOf, IsStartOf, IsWorldOf}
-use Rattle.mr_settle.specs.Explains.{AreDistinct}
-use Rattle.mr_settle.specs.inner.Named.{GivenNumbers, nothing_given}
-use Rattle.mr_settle.specs.inner.Ready.{IsNext, IsReady}
-use Rattle.mr_settle.specs.declared.ready.Ready.{Ready}
-use Rattle.mr_settle.specs.inner.Way.{NotesNewest, TellAll, left_over, HappensSo, IsAt, IsUnderWay}
-use Rattle.mr_settle.specs.inner.Carried.{done_of}
-use Rattle.mr_settle.specs.declared.progress.Progress.{Progress}
 use Rattle.mr_settle.proofs.ProgressLemmas.{map_there}
 use Rattle.mr_settle.proofs.ListLemmas.{some_one, get_set, get_other, split_at, get_all}
 use Rattle.mr_settle.proofs.NamedLemmas.{IsNamed, named, one_ask, one_record, one_receipt}

@@ -1,15 +1,6 @@
 -- a clone of an index lists the same versions
 use Rattle.std.proofs.Common.{◌≡◌, Bool, cond, Option, Some, None, List, [], ◌∷◌, Result, MatchResult, IfOk, refl, arith}
-use Rattle.std.specs.BTreeMap.{BTreeMap, IsClone, get}
-use Rattle.std.specs.List.{AllZip}
-use Rattle.std.specs.Map.{lookup}
-use Rattle.std.specs.declared.vec.Vec.{Vec}
-use Rattle.mr_version.specs.Name.{Name, name_cmp}
-use Rattle.mr_store.specs.inner.Index.{IsIndexOf}
-use Rattle.mr_store.specs.declared.room.Room.{Room}
-use Rattle.mr_madewith.specs.Revision.{Rev}
-use Rattle.mr_store.specs.inner.GapVector.{GapParts}
-use Rattle.mr_store.specs.inner.RevisionList.{IsRevisionList}
+use Rattle.mr_store.proofs.Names.{AllZip, BTreeMap, GapParts, IsClone, IsIndexOf, IsRevisionList, Name, Rev, Room, Vec, get, lookup, name_cmp}
 use Rattle.mr_store.proofs.IndexLemmas.{no_some}
 
 -- equal revisions, with an index of them that has no room, are a list of a store that has none

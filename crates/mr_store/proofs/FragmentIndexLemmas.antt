@@ -1,22 +1,11 @@
 -- What fragments cover is read off the places of those of all items and off the listings of the item.
 use Rattle.std.proofs.Common.{◌≡◌, ◌≤◌, ◌<◌, ◌+◌, ◌⊎◌, ℕ, zero, suc, Bool, true, false, ◌||◌, ◌&&◌, List, [], ◌∷◌, map, filter, length, get_or, take, drop, Option, Some, refl, sym, ap, ◌∙◌, arith}
-use Rattle.std.specs.Option.{option_map_or}
-use Rattle.std.specs.List.{list_any, slice_get}
-use Rattle.std.specs.List.Sorted.{IsPartitionPoint, IsSortedByKey}
-use Rattle.std.specs.declared.cmp.Ordering.{Ordering}
-use Rattle.std.specs.Ordering.{is_lt, is_le, is_eq}
-use Rattle.std.proofs.lemmas.Bool.{false_from_ne_true}
-use Rattle.std.proofs.lemmas.List.Folds.{list_any-append}
-use Rattle.std.proofs.lemmas.List.Sorted.{list_any-IsPermutation}
-use Rattle.mr_version.specs.Name.{Name, name_cmp, name_eq}
+use Rattle.mr_store.proofs.Names.{AuthorColumn, Finds, IsPartitionPoint, IsSortedByKey, Listing, Name, Ordering, Places, false_from_ne_true, general_from}
+use Rattle.mr_store.proofs.Names.{general_of, has_at, has_item, is_eq, is_for, is_le, is_lt, is_told, item_of, list_any, list_any-IsPermutation}
+use Rattle.mr_store.proofs.Names.{list_any-append, listed_items, listing_at, listings_from, listings_of, lists, name_cmp, name_eq, option_map_or, slice_get}
+use Rattle.mr_store.proofs.Names.{vector_has}
 use Rattle.mr_forms.specs.declared.fragment.ItemSet.{ItemSet}
-use Rattle.mr_forms.specs.Covered.{has_item, listed_items}
-use Rattle.mr_concise.specs.declared.vector.AuthorColumn.{AuthorColumn}
-use Rattle.mr_concise.specs.Vector.{vector_has}
-use Rattle.mr_store.specs.declared.fragment_index.Listing.{Listing}
 use Rattle.mr_store.proofs.OrderLemmas.{parted_up_to}
-use Rattle.mr_store.specs.FragmentIndex.{lists, is_told, item_of, listing_at, listings_of, listings_from, general_of, general_from, Places, Finds}
-use Rattle.mr_store.specs.inner.FragmentIndex.{is_for, has_at}
 
 -- ---- what is covered
 

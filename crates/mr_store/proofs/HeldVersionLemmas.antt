@@ -1,12 +1,7 @@
 -- what a version that is held has, behind its reference
 use Rattle.std.proofs.Common.{◌≡◌, ◌++◌, Option, Bor, arith}
-use Rattle.std.specs.Option.{option_copied}
-use Rattle.mr_version.specs.Name.{Name}
+use Rattle.mr_store.proofs.Names.{Holdings, Name, Rev, by_base, by_held, option_copied, revision_of}
 use Rattle.mr_concise.specs.Source.{in_some}
-use Rattle.mr_madewith.specs.Revision.{Rev, by_base}
-use Rattle.mr_store.specs.Revisions.{revision_of}
-use Rattle.mr_store.specs.Holdings.{Holdings}
-use Rattle.mr_store.specs.HeldVersions.{by_held}
 
 in_some-now : (o : Option (Bor Rev)) (v : Name) → in_some (λ r. by_base r.now) o v ≡ in_some by_base (option_copied o) v
 in_some-now o v = grind arith

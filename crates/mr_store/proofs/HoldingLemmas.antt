@@ -1,14 +1,7 @@
 -- two lists that have no version in common, after each edit
 use Rattle.std.proofs.Common.{◌≡◌, Bool, true, false, ◌&&◌, ◌||◌, cond, refl, sym, ap, ◌∙◌, List, [], ◌∷◌, ◌++◌, inl, inr, Option, Some, None, is_some, arith}
-use Rattle.std.specs.List.{filter}
-use Rattle.std.specs.Option.{option_or}
-use Rattle.std.proofs.lemmas.List.Folds.{find-append}
-use Rattle.std.proofs.lemmas.Bool.{or_right}
-use Rattle.mr_version.specs.Name.{Name, name_eq}
-use Rattle.mr_madewith.specs.Revision.{Rev}
-use Rattle.mr_madewith.specs.Keyed.{is_before}
-use Rattle.mr_madewith.proofs.Rising.{same_names, named-filter}
-use Rattle.mr_store.specs.Revisions.{version_of, revision_of, holds, AreApart, entered}
+use Rattle.mr_store.proofs.Names.{AreApart, Name, Rev, entered, filter, find-append, holds, is_before, name_eq, named-filter, option_or, or_right}
+use Rattle.mr_store.proofs.Names.{revision_of, same_names, version_of}
 use Rattle.mr_store.proofs.RevisionLemmas.{either}
 
 -- ---- a version in either list

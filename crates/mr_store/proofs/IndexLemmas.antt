@@ -1,18 +1,8 @@
 -- what the index lists once an item's list was written, or has gone
 use Rattle.std.proofs.Common.{◌≡◌, ◌<◌, ◌&&◌, ◌||◌, not, Bool, true, false, cond, if◌then◌else◌, refl, sym, ap, subst, ◌∙◌, List, Option, Some, None, IfSome, MatchOption, Result, OnOk, vec_len, vec_capacity, inl, inr, arith}
-use Rattle.std.specs.declared.vec.Vec.{Vec}
-use Rattle.std.specs.List.{filter}
-use Rattle.std.specs.Option.{option_map, option_map_or}
-use Rattle.std.specs.BTreeMap.{BTreeMap, get}
-use Rattle.mr_version.specs.Name.{Name, name_cmp, name_eq}
-use Rattle.mr_madewith.specs.Revision.{Rev}
-use Rattle.mr_forms.specs.Sets.{Versions}
-use Rattle.mr_store.specs.Revisions.{AreInVersionOrder, entered, versions_of, left_by}
-use Rattle.mr_store.specs.Room.{room_of}
-use Rattle.mr_store.specs.inner.Room.{is_for_later}
-use Rattle.mr_store.specs.inner.Index.{listed_for, IsIndexOf, HasRoomFor, version_inserted, has_later, to_list, stays_listed}
-use Rattle.mr_store.specs.declared.room.Room.{Room}
-use Rattle.mr_madewith.proofs.Rising.{same_names}
+use Rattle.mr_store.proofs.Names.{AreInVersionOrder, BTreeMap, HasRoomFor, IsIndexOf, Name, Rev, Room, Vec, Versions, entered, filter, get, has_later}
+use Rattle.mr_store.proofs.Names.{is_for_later, left_by, listed_for, name_cmp, name_eq, option_map, option_map_or, room_of, same_names, stays_listed, to_list}
+use Rattle.mr_store.proofs.Names.{version_inserted, versions_of}
 use Rattle.mr_store.proofs.RevisionLemmas.{either, versions_of-entered, versions_of-left_by}
 use Rattle.mr_store.proofs.ListedLemmas.{stays-some, to_list-inserted, to_list-elsewhere, to_list-for_later, unlisted_alone, firsts_are_all}
 

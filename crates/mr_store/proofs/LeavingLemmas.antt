@@ -1,10 +1,7 @@
 -- where nothing can leave
 use Rattle.std.proofs.Common.{◌≡◌, ◌==◌, ◌&&◌, true, false, length, arith, List, [], ◌∷◌, inl, inr}
-use Rattle.std.proofs.lemmas.Bool.{eqb-true}
-use Rattle.mr_version.specs.Name.{Name}
-use Rattle.mr_concise.specs.declared.vector.AuthorColumn.{AuthorColumn}
+use Rattle.mr_store.proofs.Names.{AuthorColumn, Name, eqb-true, leaves}
 use Rattle.mr_concise.proofs.UnionLemmas.{column_has-empty}
-use Rattle.mr_store.specs.Leaving.{leaves}
 use Rattle.mr_store.proofs.RevisionLemmas.{either}
 
 -- no version leaves where none are listed and no author has a column

@@ -1,3 +1,4 @@
+pub mod Names
 pub mod RevisionLemmas
 pub mod HoldingLemmas
 pub mod OrderLemmas

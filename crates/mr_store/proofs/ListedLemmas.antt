@@ -1,20 +1,9 @@
 -- what is to be listed for an item, after each edit of its versions and of the room
 use Rattle.std.proofs.Common.{◌≡◌, Bool, true, false, not, ◌||◌, cond, if◌then◌else◌, refl, sym, ap, subst, ◌∙◌, List, [], ◌∷◌, map, Option, Some, None, MatchOption, ◌⊎◌, inl, inr, Result, IfOk, length, ◌==◌, arith}
-use Rattle.std.specs.List.{AllByRecursion, filter}
-use Rattle.std.specs.Option.{option_map, option_map_or}
-use Rattle.std.specs.Ordering.{is_eq}
-use Rattle.std.specs.List.Sorted.{IsStrictlySortedBy}
-use Rattle.std.proofs.lemmas.Bool.{or_parts, or_from, eqb-true}
-use Rattle.std.specs.declared.cmp.Ordering.TheVariants.{Less}
-use Rattle.mr_version.specs.Name.{Name, name_cmp, name_eq}
-use Rattle.mr_madewith.specs.Revision.{Rev}
-use Rattle.mr_forms.specs.Sets.{Versions, is_listed}
-use Rattle.mr_madewith.specs.Keyed.{without}
-use Rattle.mr_madewith.proofs.Rising.{same_names, name_eq_self, name_eq-swap, head_before, tail_rises, all_filtered, rises-filter}
-use Rattle.mr_store.specs.Revisions.{AreInVersionOrder, version_of, revision_of, is_of, versions_of, left_by, AreConflicts}
-use Rattle.mr_store.specs.inner.Room.{is_for_later}
-use Rattle.mr_store.specs.inner.Index.{version_inserted, are_several, has_later, to_list, stays_listed}
-use Rattle.mr_store.specs.declared.room.Room.{Room}
+use Rattle.mr_store.proofs.Names.{AllByRecursion, AreConflicts, AreInVersionOrder, IsStrictlySortedBy, Less, Name, Rev, Room, Versions, all_filtered}
+use Rattle.mr_store.proofs.Names.{are_several, eqb-true, filter, has_later, head_before, is_eq, is_for_later, is_listed, is_of, left_by, name_cmp, name_eq}
+use Rattle.mr_store.proofs.Names.{name_eq-swap, name_eq_self, option_map, option_map_or, or_from, or_parts, revision_of, rises-filter, same_names}
+use Rattle.mr_store.proofs.Names.{stays_listed, tail_rises, to_list, version_inserted, version_of, versions_of, without}
 use Rattle.mr_store.proofs.RevisionLemmas.{either, is_none_of, without-more, is_none_of-more, left_by-listed, filter-all, unlisted_stay}
 
 -- ---- versions that are not the first

@@ -1,11 +1,7 @@
 -- What is sorted by name is parted by a name: what is below it, or up to it, stands before the others.
 use Rattle.std.proofs.Common.{◌≡◌, ◌≤◌, true, List, get_or, arith}
-use Rattle.std.specs.declared.cmp.Ordering.{Ordering}
-use Rattle.std.specs.Ordering.{is_lt, is_le, ordering_index}
-use Rattle.std.specs.List.Sorted.{IsSortedBy, IsPartitionedBy, IsNonDecreasingBy}
-use Rattle.std.proofs.lemmas.List.Sorted.{searchable_from_sorted}
-use Rattle.mr_version.specs.Name.{Name, name_cmp}
-use Rattle.mr_version.specs.Order.{names_total}
+use Rattle.mr_store.proofs.Names.{IsNonDecreasingBy, IsPartitionedBy, IsSortedBy, Name, Ordering, is_le, is_lt, name_cmp, names_total, ordering_index}
+use Rattle.mr_store.proofs.Names.{searchable_from_sorted}
 
 below_one : (o : Ordering) → is_lt o ≡ true → ordering_index o ≤ 0
 below_one o h = grind arith

@@ -1,25 +1,11 @@
 -- Revisions at the front that a test refuses are passed without a look at each.
 use Rattle.std.proofs.Common.{◌≡◌, ◌≤◌, ◌<◌, ◌-◌, ℕ, zero, suc, Bool, true, false, List, [], ◌∷◌, length, get_or, take, drop, filter, Some, refl, sym, ap, subst, ◌∙◌, arith}
-use Rattle.std.specs.List.{slice_get}
-use Rattle.std.specs.List.Sorted.{IsPartitionPoint}
+use Rattle.mr_store.proofs.Names.{AreInVersionOrder, AuthorColumn, IsPartitionPoint, Name, Rev, all_covered, and_right, by_vector, cases_order, in_any}
+use Rattle.mr_store.proofs.Names.{is_before, is_unheld, length-drop, names_total, ranks_by, slice_get, sorted_by_name, sorted_far, tail_rises, vector_has}
+use Rattle.mr_store.proofs.Names.{version_of}
 use Rattle.std.proofs.Math.Seq.{take-length}
-use Rattle.std.proofs.lemmas.List.{length-drop}
-use Rattle.std.proofs.lemmas.List.Sorted.{sorted_far, ranks_by}
-use Rattle.std.proofs.lemmas.Bool.{cases_order, and_right}
 use Rattle.std.proofs.lemmas.Bool.Decides.{nat_tests}
-use Rattle.mr_version.specs.Name.{Name}
-use Rattle.mr_version.specs.Order.{names_total}
-use Rattle.mr_forms.specs.Covered.{all_covered}
-use Rattle.mr_concise.specs.AnyOf.{in_any}
 use Rattle.mr_concise.specs.Fragments.{ConciseFragment}
-use Rattle.mr_concise.specs.declared.vector.AuthorColumn.{AuthorColumn}
-use Rattle.mr_concise.specs.Vector.{vector_has}
-use Rattle.mr_madewith.specs.Revision.{Rev}
-use Rattle.mr_madewith.specs.Keyed.{is_before}
-use Rattle.mr_madewith.proofs.Rising.{tail_rises, sorted_by_name}
-use Rattle.mr_store.specs.Revisions.{AreInVersionOrder, version_of}
-use Rattle.mr_store.specs.Unheld.{is_unheld}
-use Rattle.mr_store.specs.inner.Unheld.{by_vector}
 
 -- what a slice to the end has
 pub rest_of : (rs : List Rev) (i : ℕ) → take (length rs - i) (drop i rs) ≡ drop i rs

@@ -1,18 +1,8 @@
 -- what an index lists once each item's list keeps those that pass, and the lists that aren't needed go
 use Rattle.std.proofs.Common.{◌≡◌, ◌≤◌, ◌||◌, Bool, true, false, cond, Option, Some, None, List, [], ◌∷◌, refl, sym, subst, map, vec_len, vec_capacity, arith, inl, inr}
-use Rattle.std.specs.BTreeMap.{BTreeMap, is_at}
-use Rattle.std.specs.declared.cmp.Ordering.TheVariants.{Less}
-use Rattle.std.specs.List.{AllByRecursion, filter}
-use Rattle.std.specs.Map.{lookup}
+use Rattle.mr_store.proofs.Names.{AllByRecursion, AreRising, BTreeMap, HasRoomFor, Less, Name, Room, Vec, filter, has_later, head_before, is_at, is_for_later}
+use Rattle.mr_store.proofs.Names.{listed_for, lookup, name_cmp, name_eq, option_map, same_names, stays_listed, tail_rises}
 use Rattle.std.specs.Map.Calls.{RetainsPairs}
-use Rattle.std.specs.Option.{option_map}
-use Rattle.std.specs.declared.vec.Vec.{Vec}
-use Rattle.mr_version.specs.Name.{Name, name_cmp, name_eq}
-use Rattle.mr_madewith.specs.Keyed.{AreRising}
-use Rattle.mr_madewith.proofs.Rising.{same_names, head_before, tail_rises}
-use Rattle.mr_store.specs.inner.Room.{is_for_later}
-use Rattle.mr_store.specs.inner.Index.{listed_for, HasRoomFor, has_later, stays_listed}
-use Rattle.mr_store.specs.declared.room.Room.{Room}
 use Rattle.mr_store.proofs.IndexLemmas.{items_of_list, HasSpace}
 use Rattle.mr_store.proofs.RevisionLemmas.{either}
 use Rattle.mr_store.proofs.Several.{key_of}

@@ -1,20 +1,11 @@
 -- the versions of an item, after each edit of a list
 use Rattle.std.proofs.Common.{◌≡◌, ◌<◌, ◌==◌, ℕ, zero, suc, length, Result, IfOk, IfErr, is_ok, is_some, Bool, true, false, not, ◌&&◌, ◌||◌, cond, if◌then◌else◌, refl, sym, ap, subst, ◌∙◌, List, [], ◌∷◌, ◌++◌, map, ◌⊎◌, inl, inr, Option, Some, None, arith}
-use Rattle.std.specs.declared.cmp.Ordering.TheVariants.{Less}
-use Rattle.std.specs.List.{AllByRecursion, filter, filter_map, list_any, slice_get, cons_option}
+use Rattle.mr_store.proofs.Names.{AllByRecursion, AreInVersionOrder, Less, Name, Rev, Versions, all_filtered, cons_option, entered, eqb-true, filter}
+use Rattle.mr_store.proofs.Names.{filter_agree, filter_map, first_place, head_before, holds, is_before, is_listed, is_of, left_by, list_any, list_any-append}
+use Rattle.mr_store.proofs.Names.{name_cmp, name_eq, name_eq-swap, name_eq_self, revision_of, same_names, slice_get, supersedes, tail_rises, version_inserted}
+use Rattle.mr_store.proofs.Names.{version_of, versions_of, without}
 use Rattle.std.proofs.lemmas.Option.{slice_get-get_or}
-use Rattle.std.proofs.lemmas.Bool.{eqb-true}
-use Rattle.std.proofs.lemmas.List.Elements.{filter_agree}
-use Rattle.std.proofs.lemmas.List.Folds.{list_any-append}
-use Rattle.mr_version.specs.Name.{Name, name_cmp, name_eq}
-use Rattle.mr_forms.specs.Sets.{Versions, is_listed}
-use Rattle.mr_madewith.specs.Revision.{Rev}
-use Rattle.mr_madewith.specs.Keyed.{without, is_before}
 use Rattle.mr_madewith.specs.inner.Search.{IsFoundAt, IsGapFor}
-use Rattle.mr_store.specs.Revisions.{AreInVersionOrder, version_of, revision_of, holds, entered, is_of, versions_of, supersedes, left_by}
-use Rattle.mr_store.specs.inner.Index.{version_inserted}
-use Rattle.mr_madewith.proofs.Rising.{name_eq_self, same_names, name_eq-swap, head_before, tail_rises, all_filtered}
-use Rattle.mr_madewith.proofs.Found.{first_place}
 
 pub either : (b : Bool) → (b ≡ true) ⊎ (b ≡ false)
 either b = grind arith

@@ -1,16 +1,7 @@
 -- the items of which the index lists several versions
 use Rattle.std.proofs.Common.{◌≡◌, Bool, true, false, cond, refl, sym, subst, List, [], ◌∷◌, map, inl, inr}
-use Rattle.std.specs.declared.vec.Vec.{Vec}
-use Rattle.std.specs.declared.cmp.Ordering.TheVariants.{Less}
-use Rattle.std.specs.List.{AllByRecursion, filter}
-use Rattle.std.specs.List.Sorted.{IsStrictlySortedBy}
-use Rattle.std.specs.Map.{lookup}
-use Rattle.std.specs.Option.{option_map, option_map_or}
-use Rattle.mr_version.specs.Name.{Name, name_cmp, name_eq}
-use Rattle.mr_forms.specs.Sets.{is_listed}
-use Rattle.mr_madewith.specs.Keyed.{AreRising}
-use Rattle.mr_store.specs.inner.Index.{are_several}
-use Rattle.mr_madewith.proofs.Rising.{same_names, head_before, tail_rises, rises-filter, all_filtered}
+use Rattle.mr_store.proofs.Names.{AllByRecursion, AreRising, IsStrictlySortedBy, Less, Name, Vec, all_filtered, are_several, filter, head_before, is_listed}
+use Rattle.mr_store.proofs.Names.{lookup, name_cmp, name_eq, option_map, option_map_or, rises-filter, same_names, tail_rises}
 use Rattle.mr_store.proofs.RevisionLemmas.{either, unlisted_before}
 
 module _ {Z : Type 0} where

@@ -1,19 +1,11 @@
 -- the versions of a shelf whose card has the label
 use Rattle.std.proofs.Common.{◌≡◌, ℕ, Bool, true, false, cond, ◌&&◌, IsTrue, IsFalse, refl, ap, sym, subst, ◌∙◌, List, [], filter, Some}
-use Rattle.std.specs.BTreeSet.{BTreeSet}
-use Rattle.std.specs.declared.cmp.Ordering.{Ordering}
-use Rattle.std.specs.declared.cmp.Ordering.TheVariants.{Less, Equal, Greater}
-use Rattle.std.specs.Ordering.{is_eq}
+use Rattle.mr_subs.proofs.Names.{AreShelved, BTreeSet, Equal, Greater, Less, MailCard, Name, Ordering, card_at, card_has_label}
 use Rattle.std.specs.List.Sorted.{IsStrictlySortedBy}
+use Rattle.mr_subs.proofs.Names.{exact_names, has_label, is_eq, is_listed, name_cmp, name_eq, on_shelf}
 use Rattle.std.proofs.lemmas.List.Kept.{IsStrictlySortedBy-filter}
 use Rattle.std.proofs.lemmas.Map.Views.{any-filter_same}
-use Rattle.mr_version.specs.Name.{Name, name_cmp, name_eq}
-use Rattle.mr_version.specs.Order.{exact_names}
-use Rattle.mr_mail.specs.Label.{has_label}
-use Rattle.mr_mail.specs.Mail.{MailCard}
 use Rattle.mr_model.specs.Versions.{Versions}
-use Rattle.mr_feed.specs.Fold.{is_listed}
-use Rattle.mr_subs.specs.Index.{card_at, card_has_label, on_shelf, AreShelved}
 
 equal_of : (o : Ordering) → is_eq o ≡ true → o ≡ Equal
 equal_of Less h = cc

@@ -3,12 +3,8 @@ use Rattle.std.proofs.Common.{◌≡◌, ℕ, ◌+◌, ◌<◌, ◌⊎◌, inl, 
 use Rattle.std.proofs.Math.Seq.{take-suc}
 use Rattle.std.proofs.lemmas.List.Folds.{list_any-append}
 use Rattle.std.proofs.lemmas.Cmp.{tied_itself}
-use Rattle.std.specs.Ordering.{is_eq}
+use Rattle.mr_subs.proofs.Names.{Name, has_label, is_eq, is_place, name_eq, names_total, text_cmp, text_eq}
 use Rattle.std.specs.Cmp.Lexicographic.{texts_ties, nat_list_cmp_total}
-use Rattle.mr_version.specs.Name.{Name, name_eq}
-use Rattle.mr_version.specs.Order.{names_total}
-use Rattle.mr_mail.specs.Label.{text_cmp, text_eq, has_label}
-use Rattle.mr_subs.specs.inner.Index.{is_place}
 use Rattle.mr_subs.proofs.ShelfLemmas.{same_label}
 
 either : (a b : Bool) → (a || (b || false)) ≡ true → (a ≡ true) ⊎ (b ≡ true)

@@ -1,3 +1,4 @@
+pub mod Names
 pub mod SubscriberLemmas
 pub mod UnseenLemmas
 pub mod ShelfLemmas

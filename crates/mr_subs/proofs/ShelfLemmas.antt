@@ -1,15 +1,7 @@
 -- shelves after one write
 use Rattle.std.proofs.Common.{◌≡◌, ℕ, Bool, true, false, cond, ◌&&◌, refl, ap, sym, ◌∙◌, List, Some, None}
-use Rattle.std.specs.declared.cmp.Ordering.{Ordering}
-use Rattle.std.specs.declared.cmp.Ordering.TheVariants.{Less, Equal, Greater}
-use Rattle.std.specs.Ordering.{is_eq}
-use Rattle.std.specs.BTreeSet.{BTreeSet}
+use Rattle.mr_subs.proofs.Names.{BTreeSet, Equal, Greater, Less, Name, Ordering, is_eq, is_listed, is_place, name_eq, on_shelf, set_has, shelf, text_cmp}
 use Rattle.std.proofs.lemmas.Map.Lookups.{exact_bytes}
-use Rattle.mr_version.specs.Name.{Name, name_eq}
-use Rattle.mr_mail.specs.Label.{text_cmp}
-use Rattle.mr_feed.specs.Fold.{is_listed}
-use Rattle.mr_subs.specs.Index.{set_has, shelf, on_shelf}
-use Rattle.mr_subs.specs.inner.Index.{is_place}
 
 equal_of : (o : Ordering) → is_eq o ≡ true → o ≡ Equal
 equal_of Less h = cc

@@ -1,13 +1,10 @@
 -- the unseen versions after one entry
 use Rattle.std.specs.Prelude.{if◌then◌else◌}
 use Rattle.std.proofs.Common.{◌≡◌, Bool, true, false, cond, ap, sym, ◌∙◌, refl, List, [], ◌∷◌, Option}
-use Rattle.mr_version.specs.Name.{Name, name_eq}
-use Rattle.mr_mail.specs.Mail.{MailCard}
+use Rattle.mr_subs.proofs.Names.{Entry, MailCard, Name, is_listed, name_eq}
 use Rattle.mr_model.specs.Headline.{Cards, fold_from}
-use Rattle.mr_feed.specs.declared.entry.Entry.{Entry}
 use Rattle.mr_feed.specs.declared.entry.Entry.TheVariants.{Added, Dropped}
 use Rattle.mr_feed.specs.Entry.{told, entry_version}
-use Rattle.mr_feed.specs.Fold.{is_listed}
 use Rattle.mr_feed.specs.inner.Entry.{card_added}
 use Rattle.mr_subs.specs.Unseen.{lacks_seen, ListsUnseen}
 

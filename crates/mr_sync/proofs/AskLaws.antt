@@ -1,23 +1,11 @@
 -- the request that a pull makes
 use Rattle.std.proofs.Common.{◌≡◌, ◌+◌, ◌-◌, ◌<◌, ℕ, List, [], ◌∷◌, ◌++◌, length, Option, Some, Result, Ok, Err, refl, sym, ap, subst, ◌∙◌, arith, length-append}
-use Rattle.std.specs.Prelude.{IfOk, IfSome, option_and_then, slice_get}
-use Rattle.std.specs.Global.{Vec}
-use Rattle.std.proofs.Math.Seq.{get_or-append_seam}
+use Rattle.mr_sync.proofs.Names.{Asked, Form, IfOk, IfSome, IsPullOf, Normal, Pull, Question, Reply, State, SyncFault, Vec, get_or-append_seam}
+use Rattle.mr_sync.proofs.Names.{option_and_then, slice_get, sparing_form, step_changes}
 use Rattle.std.proofs.lemmas.Option.{slice_get-get_or}
-use Rattle.mr_forms.specs.Known.{Form}
-use Rattle.mr_itemset.specs.Normal.{Normal}
-use Rattle.mr_itemset.specs.Sparing.{sparing_form}
-use Rattle.mr_replica.specs.State.{State}
 use Rattle.mr_replica.specs.Step.{Changes, Steps}
-use Rattle.mr_replica.specs.declared.event.Event.TheVariants.{Pull}
-use Rattle.mr_replica.specs.declared.event.Reply.{Reply}
-use Rattle.mr_replica.specs.declared.event.Reply.TheVariants.{Asked}
-use Rattle.mr_replica.proofs.Replies.{step_changes}
 use Rattle.mr_wire.specs.FrameSpelling.{frame_bytes}
-use Rattle.mr_wire.specs.Frames.{Question}
 use Rattle.mr_wire.specs.declared.frame.Frame.TheVariants as frame
-use Rattle.mr_sync.specs.declared.fault.SyncFault.{SyncFault}
-use Rattle.mr_sync.specs.Asking.{IsPullOf}
 use Rattle.mr_sync.specs.inner.Asking.{asked, last_asked}
 
 -- the request behind other replies is the last one

@@ -1,9 +1,6 @@
 -- frames, one after the other
 use Rattle.std.proofs.Common.{◌≡◌, ℕ, ◌+◌, List, [], ◌∷◌, ◌++◌, take, drop, refl, ap, sym, subst, ◌∙◌, append_assoc, append-nil}
-use Rattle.std.proofs.Math.Seq.{take-add}
-use Rattle.mr_wire.specs.Grammar.{Spells}
-use Rattle.mr_wire.specs.declared.frame.Frame.{Frame}
-use Rattle.mr_sync.specs.Taken.{AreFrames}
+use Rattle.mr_sync.proofs.Names.{AreFrames, Frame, Spells, take-add}
 
 -- one frame more
 frames_push : (frames : List Frame) (front text : List ℕ) (f : Frame) (format : ℕ) → AreFrames frames front → Spells format f text → AreFrames (frames ++ f ∷ []) (front ++ text)

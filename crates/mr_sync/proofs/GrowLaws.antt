@@ -1,26 +1,11 @@
 -- logs that grow by some events only
 use Rattle.std.proofs.Common.{◌≡◌, ◌+◌, ◌<◌, ℕ, List, [], ◌∷◌, ◌++◌, length, get_or, take, map, Option, Some, None, Result, Ok, Err, refl, sym, ap, subst, ◌∙◌, append_assoc, append-nil}
-use Rattle.std.specs.Prelude.{option_map}
-use Rattle.std.specs.List.{AllByRecursion}
-use Rattle.std.proofs.lemmas.List.{append_cancel_left, map-append}
-use Rattle.mr_forms.specs.Known.{Form}
-use Rattle.mr_itemset.specs.Normal.{Normal}
-use Rattle.mr_journal.specs.declared.journal.Journal.{Journal}
-use Rattle.mr_replica.specs.State.{State}
+use Rattle.mr_sync.proofs.Names.{AllByRecursion, Answered, AreFrames, Failed, Form, Frame, GrowsOnlyBy, GrowsOnlyByTheirs, Hello, IsRecordOf, Journal}
+use Rattle.mr_sync.proofs.Names.{KeptFault, Normal, Receive, Refused, Reply, State, TakesRecordOf, TakesRecords, TooLarge, Unpacks, append_cancel_left}
+use Rattle.mr_sync.proofs.Names.{map-append, option_map, some_is, step_refused, take_one}
 use Rattle.mr_replica.specs.declared.event.Event.{Event}
-use Rattle.mr_replica.specs.declared.event.Event.TheVariants.{Receive}
-use Rattle.mr_wire.specs.declared.frame.Frame.{Frame}
-use Rattle.mr_wire.proofs.Laws.{some_is}
-use Rattle.mr_compare.proofs.ListLemmas.{take_one}
-use Rattle.mr_replica.specs.declared.event.Reply.{Reply}
 use Rattle.mr_replica.proofs.Replaying.{step_log}
-use Rattle.mr_replica.proofs.Replies.{step_refused}
-use Rattle.mr_kept.specs.declared.fault.KeptFault.{KeptFault}
-use Rattle.mr_kept.specs.declared.fault.KeptFault.TheVariants.{OutOfMemory, Refused, Failed, TooLarge}
-use Rattle.mr_kept.specs.Answered.{Answered}
-use Rattle.mr_talk.specs.Packed.{Unpacks}
-use Rattle.mr_talk.specs.declared.hello.Hello.{Hello}
-use Rattle.mr_sync.specs.Taken.{AreFrames, GrowsOnlyBy, GrowsOnlyByTheirs, IsRecordOf, TakesRecordOf, TakesRecords}
+use Rattle.mr_kept.specs.declared.fault.KeptFault.TheVariants.{OutOfMemory}
 
 all_append : (P : Event → Type 0) (xs ys : List Event) → AllByRecursion P xs → AllByRecursion P ys → AllByRecursion P (xs ++ ys)
 all_append P [] ys a b = b

@@ -1,13 +1,9 @@
 -- first bytes of digests, and why the end of a turn isn't told
 use Rattle.std.proofs.Common.{◌≡◌, ℕ, List, ◌++◌, length, take, refl, sym, ap, subst, ◌∙◌}
-use Rattle.std.proofs.Math.Seq.{take-append_seam}
+use Rattle.mr_sync.proofs.Names.{IsEndFault, IsUnfinished, MayEnd, Normal, SyncFault, fault_of_form, take-append_seam}
 use Rattle.mr_forms.specs.declared.fault.FormFault.{FormFault}
 use Rattle.mr_forms.specs.declared.fault.FormFault.TheVariants as form
-use Rattle.mr_itemset.specs.Normal.{Normal}
 use Rattle.mr_talk.specs.declared.turn.Turn.{Turn}
-use Rattle.mr_sync.specs.Ending.{IsEndFault, IsUnfinished, MayEnd}
-use Rattle.mr_sync.specs.Fault.{fault_of_form}
-use Rattle.mr_sync.specs.declared.fault.SyncFault.{SyncFault}
 use Rattle.mr_sync.specs.declared.talk.Talk.{Talk}
 use Rattle.mr_sync.specs.inner.Hello.{IsUntold}
 

@@ -1,14 +1,9 @@
 -- whether a host has something to tell
 use Rattle.std.proofs.Common.{◌≡◌, Bool, true, false, sym, subst, inr}
-use Rattle.std.specs.Prelude.{MatchOption, Option, Some}
-use Rattle.std.specs.Bool.{then_some}
-use Rattle.mr_kept.specs.Kept.{head_of, replica_of}
+use Rattle.mr_sync.proofs.Names.{HasToTell, Hello, Hellos, IsIdle, IsIdleFaultOf, JudgesOf, MatchOption, Option, Some, SyncFault, head_of, journaled_of}
+use Rattle.mr_sync.proofs.Names.{lacks_files, meetings_of, replica_of, theirs_of, then_some}
 use Rattle.mr_sync.specs.Hello.{IsHelloOf, IsJudgeFault, Judges, met_at}
-use Rattle.mr_sync.specs.Host.{HasToTell, IsIdle, IsIdleFaultOf, JudgesOf, journaled_of, lacks_files, meetings_of, theirs_of}
 use Rattle.mr_sync.specs.declared.host.FolderHost.{FolderHost}
-use Rattle.mr_sync.specs.declared.idle.Hellos.{Hellos}
-use Rattle.mr_talk.specs.declared.hello.Hello.{Hello}
-use Rattle.mr_sync.specs.declared.fault.SyncFault.{SyncFault}
 
 -- a folder that lacks no file has nothing to tell by these hellos, or has something to tell, as it judges
 module _ {D F : Type 0} where

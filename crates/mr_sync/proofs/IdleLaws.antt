@@ -1,20 +1,11 @@
 -- lists of pairs of hellos, each spelled in 88 bytes
 use Rattle.std.proofs.Common.{◌≡◌, ◌≢◌, ◌<◌, ◌≤◌, ◌==◌, ◌⊎◌, ℕ, ◌+◌, Bool, true, false, inl, inr, List, [], ◌∷◌, ◌++◌, length, take, drop, Option, Some, None, refl, sym, ap, subst, ◌∙◌, append_assoc, arith}
-use Rattle.std.specs.Prelude.{All, MatchOption, Result, Ok, slice_index_or}
-use Rattle.std.specs.Bool.{then_some}
-use Rattle.std.specs.Global.{Vec}
-use Rattle.std.specs.Int.{w32, to_be_bytes}
-use Rattle.std.specs.List.{AllByRecursion, HoldsAt, flat_map}
-use Rattle.std.proofs.lemmas.Bool.{eqb-true, false≢true}
-use Rattle.std.proofs.lemmas.List.{append-nil, get_or_default, take_at, drop_at, length-append, take-append-drop}
-use Rattle.std.proofs.lemmas.List.Elements.{AllWithin-more}
-use Rattle.std.proofs.lemmas.List.Concat.{flat_map-append}
+use Rattle.mr_sync.proofs.Names.{All, AllByRecursion, AllWithin-more, AreSpelled, HasNoneBefore, Hello, Hellos, HoldsAt, IsAnswer, IsHellos, MatchOption, Ok}
+use Rattle.mr_sync.proofs.Names.{Result, Vec, append-nil, drop_at, eqb-true, false≢true, flat_map, flat_map-append, get_or_default, hellos_bytes}
+use Rattle.mr_sync.proofs.Names.{length-append, slice_index_or, take-append-drop, take_at, then_some, to_be_bytes, w32}
 use Rattle.mr_talk.specs.Hello.{IsHello, flag, hello_bytes}
-use Rattle.mr_talk.specs.declared.hello.Hello.{Hello}
 use Rattle.mr_talk.specs.declared.hello.HelloFault.{HelloFault}
 use Rattle.mr_talk.proofs.HelloLaws.{one_hello}
-use Rattle.mr_sync.specs.Idle.{AreSpelled, HasNoneBefore, IsAnswer, IsHellos, hellos_bytes}
-use Rattle.mr_sync.specs.declared.idle.Hellos.{Hellos}
 
 -- one pair more
 pub grow : (talks : List Hellos) (x : Hellos) (bytes rest front behind : List ℕ) → bytes ≡ flat_map hellos_bytes talks ++ rest → front ≡ take 88 rest → behind ≡ drop 88 rest → front ≡ hellos_bytes x → bytes ≡ flat_map hellos_bytes (talks ++ x ∷ []) ++ behind

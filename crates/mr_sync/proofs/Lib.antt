@@ -1,3 +1,4 @@
+pub mod Names
 pub mod AskLaws
 pub mod FrameRuns
 pub mod GrowLaws

@@ -1,22 +1,14 @@
 -- lists of parts of one size that fill the bytes
 use Rattle.std.proofs.Common.{◌≡◌, ◌≢◌, ℕ, ◌*◌, ◌/◌, ◌<◌, ◌^◌, Bool, cond, List, [], ◌∷◌, ◌++◌, length, Option, Some, None, Result, Ok, Err, refl, sym, ap, subst, take, ◌≤◌, ◌∙◌, arith, length-append}
-use Rattle.std.specs.List.{AllByRecursion, flat_map}
-use Rattle.std.specs.Global.{Vec}
-use Rattle.std.proofs.lemmas.List.{append-nil, length-take}
-use Rattle.std.proofs.lemmas.List.Concat.{flat_map-cons}
+use Rattle.mr_sync.proofs.Names.{AllByRecursion, BadList, IsDigest, IsPushOut, Name, OutOfMemory, PushOut, Reads, ReadsList, RunFits, SyncFault, Vec}
+use Rattle.mr_sync.proofs.Names.{append-nil, begin_at, digest_at, flat_map, flat_map-cons, length-take, list_at, push_out_at, push_out_bytes, reads_as}
+use Rattle.mr_sync.proofs.Names.{reads_bytes, reads_like, reads_run, reads_then, reads_u64, revision_bytes, some_is, whole_list_of}
 use Rattle.std.proofs.Math.Dec.{eqb-suc-zero}
 use Rattle.std.proofs.Math.Nat.{mul-div_cancel_left}
-use Rattle.mr_version.specs.Name.{Name}
 use Rattle.mr_madewith.specs.Revision.{Rev}
 use Rattle.mr_wire.specs.Reading.{Reader, Finds}
 use Rattle.mr_wire.specs.Spelling.{u64}
-use Rattle.mr_wire.proofs.Laws.{Reads, RunFits, reads_like, reads_as, reads_then, reads_run, reads_bytes, reads_u64, some_is}
 use Rattle.mr_wire.proofs.PartLaws.{reads_name}
-use Rattle.mr_sync.specs.declared.fault.SyncFault.{SyncFault}
-use Rattle.mr_sync.specs.declared.fault.SyncFault.TheVariants.{OutOfMemory, BadList}
-use Rattle.mr_sync.specs.declared.lists.PushOut.{PushOut}
-use Rattle.mr_sync.specs.Lists.{IsDigest, IsPushOut, ReadsList, push_out_bytes, revision_bytes}
-use Rattle.mr_sync.specs.inner.Lists.{begin_at, digest_at, list_at, push_out_at, whole_list_of}
 
 -- nothing is left, or something
 more_left : {X : Type 0} (xs ys : List X) (b : ℕ) (rest : List ℕ) → ◌≢◌ {A = Option (List X × List ℕ)} (Some (xs, b ∷ rest)) (Some (ys, []))

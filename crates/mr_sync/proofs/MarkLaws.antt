@@ -1,17 +1,13 @@
 -- marks: what bytes and logs say of them
 use Rattle.std.proofs.Common.{◌≡◌, ◌≢◌, ◌↔◌, ◌≤◌, ◌<◌, ◌^◌, inl, inr, ℕ, Bool, true, false, IsTrue, List, ◌++◌, length, take, drop, Option, Some, None, refl, sym, ap, subst, ◌∙◌, append_assoc}
-use Rattle.std.specs.Prelude.{MatchBool, MatchOption}
+use Rattle.mr_sync.proofs.Names.{IsVersion, MatchBool, MatchOption, Name, false≢true, from_be_bytes, length-take-le, some_is, take-append-drop, to_be_bytes}
+use Rattle.mr_sync.proofs.Names.{w32}
 use Rattle.std.specs.Borrow.{Bor}
 use Rattle.std.specs.Option.{option_copied}
-use Rattle.std.specs.Int.{w32, from_be_bytes, to_be_bytes}
-use Rattle.std.proofs.lemmas.List.{length-take-le, take-append-drop}
 use Rattle.std.proofs.lemmas.Nat.{be_bytes_4}
-use Rattle.std.proofs.lemmas.Bool.{false≢true}
-use Rattle.mr_version.specs.Name.{IsVersion, Name}
 use Rattle.mr_mail.specs.Mail.{Mail}
 use Rattle.mr_talk.proofs.MessageLaws.{IsBytes, bytes_take}
 use Rattle.mr_lookup.specs.Told.{message_at}
-use Rattle.mr_wire.proofs.Laws.{some_is}
 use Rattle.mr_sync.specs.declared.marks.Mark.{Mark}
 use Rattle.mr_sync.specs.Marks.{AgreesWith, IsMarked, Tells, TellsNoneOf, message_short}
 

@@ -1,11 +1,7 @@
 -- records that are packed
 use Rattle.std.proofs.Common.{◌≡◌, ℕ, ◌+◌, ◌*◌, ◌≤◌, List, [], ◌∷◌, ◌++◌, length, refl, ap, sym, subst, ◌∙◌, append_assoc, arith, length-append}
-use Rattle.std.specs.Global.{Vec}
-use Rattle.mr_talk.specs.Packed.{Unpacks}
-use Rattle.mr_talk.specs.declared.kind.TheConstants.{MAX_FRAMES_BYTES, MAX_PACKED_BYTES}
+use Rattle.mr_sync.proofs.Names.{MAX_FRAMES_BYTES, MAX_PACKED_BYTES, PacksFront, PacksSoFar, Unpacks, Vec, joined}
 use Rattle.mr_talk.proofs.PackedLaws.{unpacks_none, unpacks_on}
-use Rattle.mr_sync.specs.inner.Packed.{PacksFront, PacksSoFar}
-use Rattle.mr_sync.specs.inner.Said.{joined}
 use Rattle.mr_sync.proofs.SayLaws.{text_more}
 
 -- no frame yet

@@ -1,23 +1,10 @@
 -- receipts that let go of what they are for
 use Rattle.std.proofs.Common.{◌≡◌, List, [], ◌∷◌, ℕ, Option, Some, Result, Ok, Err, refl, sym, ap, subst, inl, inr, ◌∙◌}
-use Rattle.std.specs.Prelude.{OnOk, Bool, option_map}
-use Rattle.mr_itemset.specs.Normal.{Normal}
-use Rattle.mr_itemset.specs.Sparing.{sparing_form}
-use Rattle.mr_journal.specs.declared.journal.Journal.{Journal}
-use Rattle.mr_kept.specs.Answered.{Answered, reply_by}
-use Rattle.mr_kept.specs.declared.fault.KeptFault.{KeptFault}
-use Rattle.mr_kept.specs.declared.fault.KeptFault.TheVariants.{Refused}
-use Rattle.mr_replica.specs.State.{State}
-use Rattle.mr_replica.specs.declared.event.Event.TheVariants.{Release}
-use Rattle.mr_replica.specs.declared.event.Reply.TheVariants.{Done}
+use Rattle.mr_sync.proofs.Names.{Answered, AreFrames, Bool, Done, Frame, Hello, Journal, KeptFault, LetsGo, Normal, OnOk, Refused, Release, ReleasesAll}
+use Rattle.mr_sync.proofs.Names.{ReleasesOne, State, SyncFault, TakesReceipts, option_map, reply_by, sparing_form, was_there}
 use Rattle.mr_replica.specs.declared.refusal.Refusal.TheVariants.{NotPushedOut}
-use Rattle.mr_talk.specs.declared.hello.Hello.{Hello}
-use Rattle.mr_wire.specs.declared.frame.Frame.{Frame}
 use Rattle.mr_wire.specs.declared.frame.Frame.TheVariants as frame
 use Rattle.mr_wire.specs.declared.frame.Receipt.{Receipt}
-use Rattle.mr_sync.specs.declared.fault.SyncFault.{SyncFault}
-use Rattle.mr_sync.specs.Taken.{AreFrames, LetsGo, ReleasesAll, TakesReceipts}
-use Rattle.mr_sync.specs.inner.Taken.{ReleasesOne, was_there}
 
 -- what a replica answered to a receipt, where that is told as an answer
 go_where_told : {D : Type 0} (journal : Journal D) (old new : State Normal) (r : Receipt) (answer : Result (Unit {0}) KeptFault) → Answered sparing_form journal old (Release r) (reply_by (λ _. Done) answer) new → OnOk (was_there answer) (LetsGo old r new)

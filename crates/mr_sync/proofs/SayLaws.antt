@@ -1,13 +1,7 @@
 -- frames that are said
 use Rattle.std.proofs.Common.{◌≡◌, ℕ, ◌+◌, ◌<◌, List, [], ◌∷◌, ◌++◌, Option, Some, Result, Ok, Err, take, length, get_or, refl, ap, sym, ◌∙◌, append_assoc, append-nil}
-use Rattle.std.specs.Prelude.{OnOk}
-use Rattle.std.specs.List.{cons_option, filter_map}
-use Rattle.std.specs.Global.{Vec}
-use Rattle.std.proofs.lemmas.List.Elements.{filter_map-append}
+use Rattle.mr_sync.proofs.Names.{FrontIs, OnOk, Reply, Vec, cons_option, filter_map, filter_map-append, joined, take_one}
 use Rattle.std.proofs.lemmas.Grind.{flat_map-append}
-use Rattle.mr_compare.proofs.ListLemmas.{take_one}
-use Rattle.mr_replica.specs.declared.event.Reply.{Reply}
-use Rattle.mr_sync.specs.inner.Said.{FrontIs, joined}
 
 -- one reply more
 pub one_more : (f : Reply → Option (List ℕ)) (replies : List Reply) (i : ℕ) (x : Reply) (start old new : List (List ℕ)) → old ≡ start ++ filter_map f (take i replies) → i < length replies → x ≡ get_or replies i x → new ≡ old ++ filter_map f (x ∷ []) → new ≡ start ++ filter_map f (take (i + 1) replies)

@@ -1,27 +1,14 @@
 -- what comes of a request behind its mark
 use Rattle.std.proofs.Common.{◌≡◌, ℕ, List, length, Option, Some, None, Result, Ok, Err, refl, sym, ap, subst, inr, ◌∙◌}
-use Rattle.std.specs.Prelude.{IfErr, IfOk, MatchResult, option_map}
+use Rattle.mr_sync.proofs.Names.{Answer, Answered, BadList, Hello, IfErr, IfOk, IsAnswerFault, IsAskFault, IsAskFrame, IsMetAskFault, IsNoAskOf}
+use Rattle.mr_sync.proofs.Names.{IsNoRequestOf, IsOwnMarked, Journal, Kept, KeptFault, MatchResult, Normal, OtherHistory, OutOfMemory, Question, State}
+use Rattle.mr_sync.proofs.Names.{SyncFault, fault_of_wire, option_map, some_is, sparing_form}
 use Rattle.std.specs.Result.{IsErrAnd}
-use Rattle.mr_itemset.specs.Normal.{Normal}
-use Rattle.mr_itemset.specs.Sparing.{sparing_form}
-use Rattle.mr_journal.specs.declared.journal.Journal.{Journal}
-use Rattle.mr_kept.specs.Answered.{Answered}
-use Rattle.mr_kept.specs.declared.fault.KeptFault.{KeptFault}
-use Rattle.mr_replica.specs.State.{State}
-use Rattle.mr_replica.specs.declared.event.Event.TheVariants.{Answer}
-use Rattle.mr_talk.specs.declared.hello.Hello.{Hello}
 use Rattle.mr_wire.specs.Decoding.{Answers as Decodes, decoded}
-use Rattle.mr_wire.specs.Frames.{Question}
 use Rattle.mr_wire.specs.declared.fault.WireFault.{WireFault}
 use Rattle.mr_wire.specs.declared.fault.WireFault.TheVariants as wires
 use Rattle.mr_wire.specs.declared.frame.Frame.{Frame as AnyFrame}
 use Rattle.mr_wire.specs.declared.frame.Frame.TheVariants as frames
-use Rattle.mr_wire.proofs.Laws.{some_is}
-use Rattle.mr_sync.specs.declared.fault.SyncFault.{SyncFault}
-use Rattle.mr_sync.specs.declared.fault.SyncFault.TheVariants.{OutOfMemory, Kept, BadList, OtherHistory}
-use Rattle.mr_sync.specs.Asking.{IsAnswerFault, IsAskFault, IsAskFrame, IsMetAskFault, IsNoRequestOf, IsOwnMarked}
-use Rattle.mr_sync.specs.Fault.{fault_of_wire}
-use Rattle.mr_sync.specs.inner.Taken.{IsNoAskOf}
 use Rattle.mr_sync.proofs.GrowLaws.{refused_stays, said_none}
 
 -- what holds of a fault holds of an answer that passes it on

@@ -1,11 +1,7 @@
 -- lists that are taken, part by part
 use Rattle.std.proofs.Common.{◌≡◌, ℕ, suc, ◌+◌, ◌<◌, List, [], ◌∷◌, ◌++◌, length, get_or, take, drop, add-one, sym, ap, ◌∙◌, append_assoc}
 use Rattle.std.specs.BTreeMap.{insert_entry}
-use Rattle.std.proofs.Math.Seq.{drop-cons}
-use Rattle.mr_compare.proofs.ListLemmas.{take_one}
-use Rattle.mr_version.specs.Name.{Name, name_cmp}
-use Rattle.mr_sync.specs.declared.lists.PushOut.{PushOut}
-use Rattle.mr_sync.specs.Taken.{with_waiting}
+use Rattle.mr_sync.proofs.Names.{Name, PushOut, drop-cons, name_cmp, take_one, with_waiting}
 
 -- one behind those that were put
 pub put_more : (xs : List (List ℕ)) (i : ℕ) (x : List ℕ) (start old new : List (List ℕ)) → i < length xs → x ≡ get_or xs i x → old ≡ start ++ take i xs → new ≡ old ++ x ∷ [] → new ≡ start ++ take (i + 1) xs

@@ -1,11 +1,7 @@
 -- What a list of calls comes to, by its first call and what it leaves to the others.
 use Rattle.std.proofs.Common.{◌≡◌, ◌≢◌, ℕ, List, [], ◌∷◌, ◌++◌, Option, Some, None, Result, Ok, Err, refl, sym, ap, subst, ◌∙◌, append_assoc}
-use Rattle.std.proofs.lemmas.List.{append-nil}
-use Rattle.mr_talk.specs.declared.fault.MessageFault.TheVariants.{OutOfMemory, Truncated, BadKind, TooLong, Failed}
-use Rattle.mr_talk.specs.Said.{Said}
-use Rattle.mr_talk.specs.Messages.{decoded}
-use Rattle.mr_talk.specs.declared.fault.MessageFault.{MessageFault}
-use Rattle.mr_talk.specs.Stream.{AreMessages}
+use Rattle.mr_talk.proofs.Names.{AreMessages, BadKind, MessageFault, OutOfMemory, Said, TooLong, Truncated, append-nil, decoded}
+use Rattle.mr_talk.specs.declared.fault.MessageFault.TheVariants.{Failed}
 use Rattle.mr_talk.specs.Calls.{Call, Fed, Asked, Runs, fed, given, told, Ends, ComesTo, IsDrained, AreAlike}
 use Rattle.mr_talk.proofs.StreamLaws.{begins_more, messages_once}
 

@@ -1,25 +1,11 @@
 -- Why a talk ends, by what was asked of its host, what was sent and what came.
 use Rattle.std.proofs.Common.{◌≡◌, ℕ, true, Bool, cond, List, ◌++◌, inl, inr, Option, Some, None, Ok, refl, sym, ap, subst, ◌∙◌}
-use Rattle.std.proofs.KnownBytes.{Appends-kept}
-use Rattle.std.proofs.lemmas.List.{append-nil}
+use Rattle.mr_talk.proofs.Names.{Act, Appends-kept, Called, Caller, CallerGreets, Ended, EndsWith, Err, Failed, GaveFault, HasRefused, Hears, HostFault}
+use Rattle.mr_talk.proofs.Names.{IfErr, IsBrokenBy, IsCause, IsEndedFor, IsFixed, IsKeptFor, IsSentFor, IsServed, IsTakenIn, IsUngiven, IsUnheard, IsUnsaid}
+use Rattle.mr_talk.proofs.Names.{IsUntaken, IsVoiced, Kind, Meeting, Offers, OnOk, Over, Result, Role, Said, TalkFault, Talked, TalkedFor, Turn, append-nil}
+use Rattle.mr_talk.proofs.Names.{next_of, other, sender_of, sent_by}
 use Rattle.std.specs.Io.KnownBytes.{Keeps}
-use Rattle.std.specs.Prelude.{IfErr, OnOk, Result, Err}
-use Rattle.mr_talk.specs.declared.side.HostFault.{HostFault}
-use Rattle.mr_talk.specs.declared.meeting.Meeting.{Meeting}
-use Rattle.mr_talk.specs.declared.turn.Role.{Role}
-use Rattle.mr_talk.specs.declared.turn.Role.TheVariants.{Caller, Called}
-use Rattle.mr_talk.specs.declared.turn.Turn.{Turn}
-use Rattle.mr_talk.specs.declared.turn.Turn.TheVariants.{CallerGreets, Over, Failed}
-use Rattle.mr_talk.specs.Host.{Act, HasRefused, Offers}
-use Rattle.mr_talk.specs.Said.{Said}
-use Rattle.mr_talk.specs.Turns.{sender_of, next_of}
-use Rattle.mr_talk.specs.Line.{Hears}
-use Rattle.mr_talk.specs.Talk.{other, sent_by, Ended, IsCause, IsFixed, Talked, TalkedFor}
-use Rattle.mr_talk.specs.inner.Host.{EndsWith, GaveFault, IsBrokenBy, IsEndedFor, IsKeptFor, IsSentFor, IsServed, IsTakenIn, IsVoiced}
-use Rattle.mr_talk.specs.inner.Talk.{IsUngiven, IsUnheard, IsUnsaid, IsUntaken}
-use Rattle.mr_talk.specs.declared.kind.Kind.{Kind}
 use Rattle.mr_talk.specs.declared.kind.Kind.TheVariants as kind
-use Rattle.mr_talk.specs.declared.talk_fault.TalkFault.{TalkFault}
 use Rattle.mr_talk.specs.declared.talk_fault.TalkFault.TheVariants as talk
 use Rattle.mr_talk.proofs.HostLaws.{acts_append, offered, refused_before, refused_behind}
 use Rattle.mr_talk.proofs.ServedLaws.{played, still_none}

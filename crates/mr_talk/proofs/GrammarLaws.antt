@@ -1,14 +1,10 @@
 -- The states of a talk accept just the talks.
 use Rattle.std.proofs.Common.{◌≡◌, ℕ, zero, suc, Bool, true, false, cond, ◌&&◌, List, [], ◌∷◌, ◌++◌, Option, Some, None, ◌⊎◌, inl, inr, refl, sym, ap, subst, ◌∙◌, append_assoc}
-use Rattle.std.specs.Prelude.{IsTrue, replicate}
-use Rattle.std.specs.List.{flat_map}
-use Rattle.std.proofs.lemmas.List.Concat.{flat_map-cons}
-use Rattle.std.proofs.lemmas.Bool.{and_parts}
-use Rattle.mr_talk.specs.declared.kind.Kind.{Kind}
-use Rattle.mr_talk.specs.declared.kind.Kind.TheVariants.{Hello, Idle, Ask, Begin, Piece, End, Missing, Records, Wants, PushOuts, Receipts, Turn as Passes, Done, Fault, Whole}
-use Rattle.mr_talk.specs.declared.turn.Turn.{Turn}
-use Rattle.mr_talk.specs.declared.turn.Turn.TheVariants.{CallerGreets, CalledGreets, CalledAsks, CalledPasses, CallerAsks, CallerTells, CallerTellsFile, CalledTells, CalledTellsFile, CallerSettles, CallerSettlesFile, CallerWants, CalledSettles, CalledSettlesFile, CalledCloses, CallerCloses, Over, Failed}
-use Rattle.mr_talk.specs.Turns.{next_of, Leads}
+use Rattle.mr_talk.proofs.Names.{Ask, Begin, CalledAsks, CalledCloses, CalledGreets, CalledPasses, CalledSettles, CalledSettlesFile, CalledTells}
+use Rattle.mr_talk.proofs.Names.{CalledTellsFile, CallerAsks, CallerCloses, CallerGreets, CallerSettles, CallerSettlesFile, CallerTells, CallerTellsFile}
+use Rattle.mr_talk.proofs.Names.{CallerWants, Done, End, Failed, Fault, Hello, Idle, IsTrue, Kind, Leads, Missing, Over, Piece, PushOuts, Receipts, Records}
+use Rattle.mr_talk.proofs.Names.{Turn, Wants, Whole, and_parts, flat_map, flat_map-cons, next_of, replicate}
+use Rattle.mr_talk.specs.declared.kind.Kind.TheVariants.{Turn as Passes}
 use Rattle.mr_talk.proofs.Tables.{each_kind, kind_at, is_kind, kind_from, is_turn, turn_from, turn_not, each_placed, placed_at}
 use Rattle.mr_talk.specs.Grammar.{Part, One, File, part_kinds, is_in, May, AllMay, IsSaid, IsTold, IsLate, IsClose, IsOpen, IsHalfDone, IsLong, IsWholeTalk}
 

@@ -1,15 +1,12 @@
 -- The fields of a hello, and what each says of the bytes.
 use Rattle.std.proofs.Common.{◌≡◌, ◌≢◌, ℕ, ◌+◌, ◌^◌, ◌<◌, ◌≤◌, Bool, true, false, List, [], ◌∷◌, ◌++◌, length, get_or, take, drop, Result, Ok, Err, refl, sym, ap, subst, ◌∙◌, append_assoc, arith}
-use Rattle.std.specs.Int.{w32, from_be_bytes, to_be_bytes}
-use Rattle.std.proofs.lemmas.List.{take_at, drop_at, drop_more, length-append, length-drop, length-take-le, take-append-drop, get_or-drop}
-use Rattle.std.proofs.lemmas.Nat.{be_bytes_4, from_be_bytes-to_be_bytes_4}
-use Rattle.mr_version.specs.declared.author.TheConstants.{AUTHORS}
+use Rattle.mr_talk.proofs.Names.{AUTHORS, HELLO_FORMAT, HasId, IsHello, IsOfFormat, Reads, be_bytes_4, drop_at, drop_more, flag, from_be_bytes}
+use Rattle.mr_talk.proofs.Names.{from_be_bytes-to_be_bytes_4, get_or-drop, hello_bytes, length-append, length-drop, length-take-le, take-append-drop, take_at}
+use Rattle.mr_talk.proofs.Names.{to_be_bytes, w32}
 use Rattle.mr_talk.specs.declared.hello.Hello.{Hello}
 use Rattle.mr_talk.specs.declared.hello.HelloFault.{HelloFault}
 use Rattle.mr_talk.specs.declared.hello.HelloFault.TheVariants.{Length, Format, Id, Waiting, KeepsAll}
-use Rattle.mr_talk.specs.declared.hello.TheConstants.{HELLO_FORMAT}
 use Rattle.mr_talk.proofs.MessageLaws.{IsBytes, bytes_take, bytes_drop}
-use Rattle.mr_talk.specs.Hello.{flag, hello_bytes, IsHello, IsOfFormat, HasId, Reads}
 use Rattle.mr_talk.specs.inner.Hello.{AreFields}
 
 -- what the fields say of single bytes

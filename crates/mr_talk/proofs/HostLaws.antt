@@ -1,27 +1,18 @@
 -- Calls of a host, one behind the other, and what they are for.
 use Rattle.std.proofs.Common.{◌≡◌, ◌⊎◌, ℕ, Bool, true, false, List, [], ◌∷◌, ◌++◌, inl, inr, Option, Some, None, Result, Ok, Err, refl, sym, ap, subst, ◌∙◌}
-use Rattle.std.specs.Prelude.{IfErr, IfOk, IsErrAnd}
+use Rattle.mr_talk.proofs.Names.{Act, Acts, Asks, CalledAsks, CalledGreets, CalledPasses, CallerAsks, CallerGreets, EndsTurn, EndsWith, GaveFault, Gives}
+use Rattle.mr_talk.proofs.Names.{Hands, HasRefused, HostFault, IfErr, IfOk, IsAskedFor, IsEndedFor, IsErrAnd, IsFixed, IsKeptFor, IsLast, IsMet, IsSentFor}
+use Rattle.mr_talk.proofs.Names.{IsTakenIn, IsUnmade, IsVoiced, Keeps, KeepsFiles, Kind, Known, Listens, Meeting, Meets, MeetsIt, Offers, Reads, Said, Speaks}
+use Rattle.mr_talk.proofs.Names.{Suits, TalkFault, Turn, is_some, known_of, option_or, refusal_of, speech_message}
 use Rattle.std.specs.Result.{result_err, result_unwrap_or}
-use Rattle.std.specs.Option.{is_some, option_or}
-use Rattle.mr_talk.specs.Hello.{Reads}
 use Rattle.mr_talk.specs.declared.fault.LineFault.{LineFault}
 use Rattle.mr_talk.specs.declared.hello.Hello.{Hello}
-use Rattle.mr_talk.specs.declared.meeting.Meeting.{Meeting}
-use Rattle.mr_talk.specs.declared.talk_fault.TalkFault.{TalkFault}
 use Rattle.mr_talk.specs.declared.talk_fault.TalkFault.TheVariants as talk
 use Rattle.std.specs.Global.{Vec}
 use Rattle.mr_talk.specs.declared.meeting.Speech.TheVariants as speech
-use Rattle.mr_talk.specs.inner.Talk.{IsLast, IsUnmade, Suits}
-use Rattle.mr_talk.specs.declared.side.HostFault.{HostFault}
-use Rattle.mr_talk.specs.Host.{Act, Acts, Asks, EndsTurn, Gives, HasRefused, Keeps, KeepsFiles, Known, Listens, Meets, MeetsIt, Offers, Speaks, Takes, refusal_of}
-use Rattle.mr_talk.specs.Talk.{IsFixed}
+use Rattle.mr_talk.specs.Host.{Takes}
 use Rattle.mr_talk.specs.declared.meeting.Speech.{Speech}
-use Rattle.mr_talk.specs.declared.turn.Turn.{Turn}
-use Rattle.mr_talk.specs.declared.turn.Turn.TheVariants.{CallerGreets, CalledGreets, CalledAsks, CalledPasses, CallerAsks}
 use Rattle.mr_talk.specs.declared.kind.Kind.TheVariants as kind
-use Rattle.mr_talk.specs.Said.{Said}
-use Rattle.mr_talk.specs.declared.kind.Kind.{Kind}
-use Rattle.mr_talk.specs.inner.Host.{EndsWith, GaveFault, Hands, IsAskedFor, IsEndedFor, IsKeptFor, IsMet, IsSentFor, IsTakenIn, IsVoiced, known_of, speech_message}
 
 pub acts_one : {S : Type 0} (steps : S → Act → S → Type 0) (old new : S) (act : Act) → steps old act new → Acts steps old (act ∷ []) new
 acts_one steps old new act s = (new, s, refl)

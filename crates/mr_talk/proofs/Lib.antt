@@ -1,3 +1,4 @@
+pub mod Names
 pub mod MessageLaws
 pub mod StreamLaws
 pub mod CallLaws

@@ -1,16 +1,8 @@
 -- What reads and feeds leave ahead.
 use Rattle.std.proofs.Common.{◌≡◌, ℕ, List, [], ◌∷◌, ◌++◌, length, take, drop, Option, Some, None, Result, Ok, Err, OnErr, refl, sym, ap, subst, ◌∙◌, append_assoc, take-append-drop}
-use Rattle.std.specs.Prelude.{IfErr, IsErrAnd}
-use Rattle.std.specs.Int.{w32, to_be_bytes}
-use Rattle.std.specs.Io.KnownBytes.{Appends}
-use Rattle.std.proofs.KnownBytes.{Appends-trans}
-use Rattle.std.proofs.lemmas.List.{append-nil}
-use Rattle.mr_talk.specs.Kinds.{kind_byte}
-use Rattle.mr_talk.specs.Said.{Said, message_bytes}
-use Rattle.mr_talk.specs.Reader.{Nexts}
-use Rattle.mr_talk.specs.Stream.{Begins}
-use Rattle.mr_talk.specs.Line.{ahead, IsBegun, Hears}
-use Rattle.mr_talk.specs.inner.Line.{IsSame}
+use Rattle.mr_talk.proofs.Names.{Appends, Appends-trans, Begins, Hears, IfErr, IsBegun, IsErrAnd, IsSame, Nexts, Said, append-nil, kind_byte, message_bytes}
+use Rattle.mr_talk.proofs.Names.{to_be_bytes, w32}
+use Rattle.mr_talk.specs.Line.{ahead}
 use Rattle.mr_talk.proofs.StreamLaws.{begins_more}
 
 -- ---- writing

@@ -1,19 +1,11 @@
 -- What is decoded is spelled by the bytes that it took, and what is spelled is decoded again.
 use Rattle.std.proofs.Common.{◌≡◌, ◌≢◌, ℕ, suc, lit<, ◌+◌, ◌^◌, ◌<◌, ◌≤◌, Bool, true, false, cond, eqb, List, [], ◌∷◌, ◌++◌, length, get_or, take, drop, Option, Some, None, Result, Ok, Err, refl, sym, ap, subst, ◌∙◌, append_assoc, arith}
-use Rattle.std.specs.Prelude.{IfOk, nat_lt}
-use Rattle.std.specs.Int.{w32, from_be_bytes, to_be_bytes}
-use Rattle.std.proofs.lemmas.Bool.{eqb-true, ltb-false, ltb-true, le-ltb, lt-ltb}
-use Rattle.std.proofs.lemmas.List.{take_at, drop_at, take-append-drop, take-append-le, length-append, length-take, length-take-le, length-drop, drop-drop, get_or-take, get_or-drop, get_or_past}
-use Rattle.std.proofs.lemmas.Nat.{be_bytes_4, from_be_bytes-to_be_bytes_4}
-use Rattle.mr_talk.specs.declared.kind.Kind.{Kind}
-use Rattle.mr_talk.specs.declared.kind.Kind.TheVariants.{Hello, Idle, Ask, Begin, Piece, End, Missing, Records, Wants, PushOuts, Receipts, Turn, Done, Fault, Whole}
-use Rattle.mr_talk.specs.declared.kind.TheConstants.{MAX_PACKED_BYTES}
-use Rattle.mr_talk.specs.declared.fault.MessageFault.{MessageFault}
-use Rattle.mr_talk.specs.declared.fault.MessageFault.TheVariants.{Truncated, TooLong}
-use Rattle.mr_talk.specs.Kinds.{kind_byte, kind_of_byte, limit_of}
-use Rattle.mr_talk.specs.Said.{Said, IsMessage, message_bytes}
-use Rattle.mr_talk.specs.Messages.{length_read, kind_read, head_read, body_read, decoded, Answers}
-use Rattle.mr_talk.specs.Stream.{Begins}
+use Rattle.mr_talk.proofs.Names.{Answers, Ask, Begin, Begins, Done, End, Fault, Hello, Idle, IfOk, IsMessage, Kind, MAX_PACKED_BYTES, MessageFault, Missing}
+use Rattle.mr_talk.proofs.Names.{Piece, PushOuts, Receipts, Records, Said, TooLong, Truncated, Wants, Whole, be_bytes_4, body_read, decoded, drop-drop}
+use Rattle.mr_talk.proofs.Names.{drop_at, eqb-true, from_be_bytes, from_be_bytes-to_be_bytes_4, get_or-drop, get_or-take, get_or_past, head_read, kind_byte}
+use Rattle.mr_talk.proofs.Names.{kind_of_byte, kind_read, le-ltb, length-append, length-drop, length-take, length-take-le, length_read, limit_of, lt-ltb}
+use Rattle.mr_talk.proofs.Names.{ltb-false, ltb-true, message_bytes, nat_lt, take-append-drop, take-append-le, take_at, to_be_bytes, w32}
+use Rattle.mr_talk.specs.declared.kind.Kind.TheVariants.{Turn}
 
 abbrev pub IsBytes : List ℕ → Type 0
 IsBytes bytes = (i : ℕ) → get_or bytes i 0 < 256

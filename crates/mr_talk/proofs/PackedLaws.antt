@@ -1,18 +1,14 @@
 -- Tokens one behind another: what they tell, and that bytes are those of one list of tokens only.
 use Rattle.std.proofs.Common.{◌≡◌, ℕ, suc, ◌+◌, ◌-◌, ◌*◌, ◌^◌, ◌<◌, ◌≤◌, Bool, true, false, cond, List, [], ◌∷◌, ◌++◌, length, get_or, take, drop, Option, Some, None, refl, sym, ap, subst, ◌∙◌, append_assoc, append-nil, arith}
-use Rattle.std.specs.Prelude.{nat_lt, min, IsErrAnd, MatchResult}
-use Rattle.std.specs.Int.{w32, from_be_bytes, to_be_bytes}
-use Rattle.std.specs.List.{flat_map, AllByRecursion}
-use Rattle.std.proofs.lemmas.Bool.{le-ltb}
-use Rattle.std.proofs.lemmas.List.{take_at, take-append-drop, length-append, length-take-le, length-drop, drop-drop, append_cancel_left}
-use Rattle.std.proofs.lemmas.List.Concat.{flat_map-append}
-use Rattle.std.proofs.Math.Seq.{take-add}
+use Rattle.mr_talk.proofs.Names.{AllByRecursion, AreDigits, ArePairs, BeginsWith, CanBeWritten, Copy, Digits, EndsBadly, Fits, IsBlamed, IsErrAnd, IsNoToken}
+use Rattle.mr_talk.proofs.Names.{IsRunOf, IsToken, Literal, Long, MAX_FRAMES_BYTES, MatchResult, Move, Spelled, Spells, Takes, Tells, TellsTooMuch, TellsUpTo}
+use Rattle.mr_talk.proofs.Names.{Token, Unpacks, Writes, append_cancel_left, be_bytes_4, body, drop-drop, flat_map, flat_map-append, from_be_bytes}
+use Rattle.mr_talk.proofs.Names.{from_be_bytes-to_be_bytes_4, head, highest, le-ltb, length-append, length-drop, length-take-le, lowest, min, moves, nat_lt}
+use Rattle.mr_talk.proofs.Names.{place_after, rest_tokens, run_size, size_of, spell, take-add, take-append-drop, take_at, to_be_bytes, token_bytes}
+use Rattle.mr_talk.proofs.Names.{two_digits, w32}
 use Rattle.std.proofs.Math.ListN.{drop_of_length-le}
-use Rattle.std.proofs.lemmas.Nat.{be_bytes_4, from_be_bytes-to_be_bytes_4}
 use Rattle.mr_talk.proofs.MessageLaws.{bytes_take}
-use Rattle.mr_talk.specs.Packed.{EndsBadly, IsBlamed, TellsTooMuch, TellsUpTo, size_of, Token, End, Copy, Literal, Digits, Move, Long, Spelled, IsToken, Tells, Spells, Unpacks, begun, body, head, highest, lowest, says, spell, token_bytes, two_digits}
-use Rattle.mr_talk.specs.inner.Packed.{AreDigits, ArePairs, BeginsWith, CanBeWritten, Fits, IsNoToken, IsRunOf, Takes, Writes, moves, place_after, rest_tokens, run_size}
-use Rattle.mr_talk.specs.declared.kind.TheConstants.{MAX_FRAMES_BYTES}
+use Rattle.mr_talk.specs.Packed.{End, begun, says}
 use Rattle.mr_talk.specs.declared.packing.Run.{Run}
 use Rattle.mr_talk.specs.declared.packing.Run.TheVariants as run
 use Rattle.std.proofs.Common.{Result, Ok, Err}

@@ -1,20 +1,9 @@
 -- A talk's host, served one message more.
 use Rattle.std.proofs.Common.{◌≡◌, ℕ, ◌+◌, List, [], ◌∷◌, ◌++◌, length, false, Option, Some, None, Ok, refl, sym, ap, subst, ◌∙◌, append_assoc}
-use Rattle.std.proofs.lemmas.List.{append-nil}
-use Rattle.std.specs.Io.KnownBytes.{Appends}
-use Rattle.mr_talk.specs.declared.side.HostFault.{HostFault}
-use Rattle.mr_talk.specs.declared.meeting.Meeting.{Meeting}
-use Rattle.mr_talk.specs.declared.turn.Role.{Role}
-use Rattle.mr_talk.specs.declared.turn.Role.TheVariants.{Caller, Called}
-use Rattle.mr_talk.specs.declared.turn.Turn.{Turn}
-use Rattle.mr_talk.specs.declared.turn.Turn.TheVariants.{CallerGreets}
-use Rattle.mr_talk.specs.Host.{Act, Acts, HasRefused, Keeps, Known, Listens, Played, Plays, Serves, Tells, nobody}
-use Rattle.mr_talk.specs.Line.{Hears}
-use Rattle.mr_talk.specs.Said.{Said, message_bytes}
-use Rattle.mr_talk.specs.Talk.{Talked, kinds, other}
-use Rattle.mr_talk.specs.Turns.{sender_of, next_of, Leads}
-use Rattle.mr_talk.specs.World.{received}
-use Rattle.mr_talk.specs.inner.Host.{IsSentFor, IsServed, IsTakenIn, IsVoiced, known_of}
+use Rattle.mr_talk.proofs.Names.{Act, Acts, Appends, Called, Caller, CallerGreets, HasRefused, Hears, HostFault, IsSentFor, IsServed, IsTakenIn, IsVoiced}
+use Rattle.mr_talk.proofs.Names.{Keeps, Known, Leads, Listens, Meeting, Played, Plays, Role, Said, Serves, Talked, Turn, append-nil, kinds, known_of}
+use Rattle.mr_talk.proofs.Names.{message_bytes, next_of, nobody, other, received, sender_of}
+use Rattle.mr_talk.specs.Host.{Tells}
 use Rattle.mr_talk.proofs.HostLaws.{acts_append, none_is_some, refused_before, refused_behind}
 use Rattle.mr_talk.proofs.TalkLaws.{heard_more, one_more, said_more}
 

@@ -1,9 +1,6 @@
 -- The messages that bytes begin with are determined by the bytes.
 use Rattle.std.proofs.Common.{◌≡◌, ℕ, List, [], ◌∷◌, ◌++◌, Err, refl, sym, ap, subst, ◌∙◌, append_assoc}
-use Rattle.mr_talk.specs.declared.fault.MessageFault.{MessageFault}
-use Rattle.mr_talk.specs.Said.{Said, message_bytes}
-use Rattle.mr_talk.specs.Messages.{decoded}
-use Rattle.mr_talk.specs.Stream.{Begins, AreMessages}
+use Rattle.mr_talk.proofs.Names.{AreMessages, Begins, MessageFault, Said, decoded, message_bytes}
 use Rattle.mr_talk.proofs.MessageLaws.{decoded_begin, begins_once}
 
 -- they begin with it still where more bytes come

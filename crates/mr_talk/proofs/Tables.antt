@@ -1,14 +1,13 @@
 -- What is tried at each kind of message and at each state.
 use denote.Enum.Bare.{sameb, same_true, same_false}
 use Rattle.std.proofs.Common.{◌≡◌, Bool, true, false, ◌&&◌, Option, Some, None, subst}
-use Rattle.std.proofs.lemmas.Bool.{and_parts}
+use Rattle.mr_talk.proofs.Names.{Ask, Begin, CalledAsks, CalledCloses, CalledGreets, CalledPasses, CalledSettles, CalledSettlesFile, CalledTells}
+use Rattle.mr_talk.proofs.Names.{CalledTellsFile, CallerAsks, CallerCloses, CallerGreets, CallerSettles, CallerSettlesFile, CallerTells, CallerTellsFile}
+use Rattle.mr_talk.proofs.Names.{CallerWants, Done, End, Failed, Fault, Hello, Idle, Kind, Missing, Over, Piece, PushOuts, Receipts, Records, Turn, Wants}
+use Rattle.mr_talk.proofs.Names.{Whole, and_parts, next_of}
 use Rattle.mr_talk.specs.contracts.kind.Kind.{the_type as the_kind}
 use Rattle.mr_talk.specs.contracts.turn.Turn.{the_type as the_turn}
-use Rattle.mr_talk.specs.declared.kind.Kind.{Kind}
-use Rattle.mr_talk.specs.declared.kind.Kind.TheVariants.{Hello, Idle, Ask, Begin, Piece, End, Missing, Records, Wants, PushOuts, Receipts, Turn as Passes, Done, Fault, Whole}
-use Rattle.mr_talk.specs.declared.turn.Turn.{Turn}
-use Rattle.mr_talk.specs.declared.turn.Turn.TheVariants.{CallerGreets, CalledGreets, CalledAsks, CalledPasses, CallerAsks, CallerTells, CallerTellsFile, CalledTells, CalledTellsFile, CallerSettles, CallerSettlesFile, CallerWants, CalledSettles, CalledSettlesFile, CalledCloses, CallerCloses, Over, Failed}
-use Rattle.mr_talk.specs.Turns.{next_of}
+use Rattle.mr_talk.specs.declared.kind.Kind.TheVariants.{Turn as Passes}
 
 abbrev pub each_kind : (Kind → Bool) → Bool
 each_kind f = f Hello && (f Idle && (f Ask && (f Begin && (f Piece && (f End && (f Missing && (f Records && (f Wants && (f PushOuts && (f Receipts && (f Passes && (f Done && (f Fault && f Whole)))))))))))))

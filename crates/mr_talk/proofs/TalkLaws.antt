@@ -1,21 +1,10 @@
 -- A talk with one message more, and one that breaks off.
 use denote.Enum.Bare.{sameb, same_true, same_false}
 use Rattle.std.proofs.Common.{◌≡◌, ℕ, true, false, ◌+◌, arith, List, [], ◌∷◌, ◌++◌, inl, inr, Option, Some, None, Ok, refl, sym, ap, subst, ◌∙◌, append_assoc}
-use Rattle.std.proofs.KnownBytes.{Appends-trans, Appends-kept, Consumes-trans}
-use Rattle.std.proofs.lemmas.List.{append-nil, length-append}
-use Rattle.std.specs.Io.KnownBytes.{Appends, Consumes}
-use Rattle.std.specs.Prelude.{length}
+use Rattle.mr_talk.proofs.Names.{Appends, Appends-kept, Appends-trans, BrokeOff, Called, Caller, CallerGreets, Consumes, Consumes-trans, Hears, IsBegun}
+use Rattle.mr_talk.proofs.Names.{IsPartly, Leads, Role, Said, Talked, Turn, append-nil, if_sender, kinds, length, length-append, message_bytes, next_of}
+use Rattle.mr_talk.proofs.Names.{other, received, sender_of, sent_by}
 use Rattle.mr_talk.specs.contracts.turn.Role.{the_type}
-use Rattle.mr_talk.specs.declared.turn.Role.{Role}
-use Rattle.mr_talk.specs.declared.turn.Role.TheVariants.{Caller, Called}
-use Rattle.mr_talk.specs.declared.turn.Turn.{Turn}
-use Rattle.mr_talk.specs.declared.turn.Turn.TheVariants.{CallerGreets}
-use Rattle.mr_talk.specs.Said.{Said, message_bytes}
-use Rattle.mr_talk.specs.Turns.{sender_of, next_of, Leads}
-use Rattle.mr_talk.specs.World.{received}
-use Rattle.mr_talk.specs.Line.{Hears, IsBegun}
-use Rattle.mr_talk.specs.Talk.{other, if_sender, sent_by, kinds, Talked, BrokeOff}
-use Rattle.mr_talk.specs.inner.Talk.{IsPartly}
 use Rattle.mr_talk.proofs.LineLaws.{begun_all, begun_behind}
 
 -- ---- the two sides

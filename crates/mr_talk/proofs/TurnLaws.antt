@@ -1,16 +1,13 @@
 -- Both sides go through the same states, and there are at most seven turns.
 use Rattle.std.proofs.Common.{◌≡◌, ℕ, ◌+◌, ◌≤◌, Bool, true, false, cond, List, [], ◌∷◌, ◌++◌, Option, Some, None, ◌⊎◌, inl, inr, refl, sym, ap, subst, ◌∙◌, arith}
-use Rattle.std.specs.Prelude.{nat_le, count_by}
-use Rattle.std.proofs.lemmas.Bool.{leb-true}
+use Rattle.mr_talk.proofs.Names.{Agree, Called, CalledAsks, CalledCloses, CalledGreets, CalledPasses, CalledSettles, CalledSettlesFile, CalledTells}
+use Rattle.mr_talk.proofs.Names.{CalledTellsFile, Caller, CallerAsks, CallerCloses, CallerGreets, CallerSettles, CallerSettlesFile, CallerTells}
+use Rattle.mr_talk.proofs.Names.{CallerTellsFile, CallerWants, Event, Failed, Follows, Kind, Leads, Over, Receives, Role, Sends, Turn, World, after, allowed}
+use Rattle.mr_talk.proofs.Names.{called_receives, called_sends, caller_receives, caller_sends, count_by, happens, leb-true, nat_le, next_of, received}
+use Rattle.mr_talk.proofs.Names.{sender_of, start}
 use Rattle.std.proofs.lemmas.List.Sums.{sum_by-cons}
-use Rattle.mr_talk.specs.declared.kind.Kind.{Kind}
-use Rattle.mr_talk.specs.declared.turn.Role.{Role}
-use Rattle.mr_talk.specs.declared.turn.Role.TheVariants.{Caller, Called}
-use Rattle.mr_talk.specs.declared.turn.Turn.{Turn}
-use Rattle.mr_talk.specs.declared.turn.Turn.TheVariants.{CallerGreets, CalledGreets, CalledAsks, CalledPasses, CallerAsks, CallerTells, CallerTellsFile, CalledTells, CalledTellsFile, CallerSettles, CallerSettlesFile, CallerWants, CalledSettles, CalledSettlesFile, CalledCloses, CallerCloses, Over, Failed}
-use Rattle.mr_talk.specs.Turns.{sender_of, next_of, Leads}
 use Rattle.mr_talk.proofs.Tables.{turn_at, each_placed, placed_at}
-use Rattle.mr_talk.specs.World.{World, start, Event, Sends, Receives, allowed, caller_sends, called_sends, received, caller_receives, called_receives, happens, after, Follows, Agree, ends_turn}
+use Rattle.mr_talk.specs.World.{ends_turn}
 
 -- ---- at most seven turns
 

@@ -1,3 +1,4 @@
+pub mod Names
 pub mod Serving
 pub mod Saying
 pub mod Speaking

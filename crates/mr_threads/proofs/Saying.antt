@@ -1,16 +1,9 @@
 -- One letter more of a sender, and one entry more of a subscriber.
 use Rattle.std.proofs.Common.{◌≡◌, List, [], ◌∷◌, ◌++◌, None, Result, OnErr, sym, ap, subst, ◌∙◌, append_assoc, arith}
-use Rattle.std.proofs.lemmas.List.{append-nil, map-append}
+use Rattle.mr_threads.proofs.Names.{Cards, Entry, HearsOut, MailCard, PostView, Said, Says, SaysInPart, Talk, answers_heard, append-nil, letters_said}
+use Rattle.mr_threads.proofs.Names.{map-append, with_letter, with_letters}
 use Rattle.std.specs.Option.{option_to_list}
-use Rattle.mr_mail.specs.Mail.{MailCard}
-use Rattle.mr_model.specs.Headline.{Cards}
-use Rattle.mr_feed.specs.declared.entry.Entry.{Entry}
 use Rattle.mr_subs.specs.Subscriber.{Keeping, ShowsFold, Applies, pending, ShowsFold-append}
-use Rattle.mr_lane.specs.Post.{PostView, with_letter}
-use Rattle.mr_threads.specs.declared.talk.Talk.{Talk}
-use Rattle.mr_threads.specs.Exchange.{Said, letters_said, answers_heard}
-use Rattle.mr_threads.specs.Talk.{with_letters, Says, SaysInPart}
-use Rattle.mr_threads.specs.inner.Talk.{HearsOut}
 use Rattle.mr_threads.proofs.Serving.{with_items-append, with_items-nil}
 
 -- what holds in any case holds of an error

@@ -1,21 +1,13 @@
 -- One letter more, or one end mark.
 use Rattle.std.proofs.Common.{◌≡◌, ◌<◌, ◌+◌, ℕ, List, [], ◌∷◌, ◌++◌, length, take, drop, get_or, sym, refl, ap, ◌∙◌, subst, append_assoc, add-one, arith}
 use Rattle.std.proofs.Math.Seq.{take-suc}
-use Rattle.std.proofs.lemmas.List.{append-nil, map-append, take-append-drop}
-use Rattle.mr_feed.specs.declared.entry.Entry.{Entry}
+use Rattle.mr_threads.proofs.Names.{Core, Entry, Exchange, GivesAnswer, GivesAnswers, Note, RanShort, Replays, Said, Sender, Serves, ServesPart, Serving}
+use Rattle.mr_threads.proofs.Names.{ServingPart, TapEnd, TellsBoth, TellsPart, answers_heard, answers_to, append-nil, closed_feeds, closed_replies, letter_in}
+use Rattle.mr_threads.proofs.Names.{letters_in, letters_with_senders, map-append, said_by, take-append-drop, with_items}
 use Rattle.mr_lane.specs.declared.piece.Piece.TheVariants.{Item, End}
-use Rattle.mr_lane.specs.declared.note.Sender.{Sender}
-use Rattle.mr_lane.specs.declared.note.Note.{Note}
-use Rattle.mr_lane.specs.Tap.{TapEnd}
-use Rattle.mr_threads.specs.Exchange.{Said, Exchange, said_by, answers_heard, answers_to, Replays}
 use Rattle.mr_threads.specs.inner.Exchange.{exchange}
-use Rattle.mr_lane.specs.Letters.{letter_in, letters_in}
-use Rattle.mr_threads.specs.Lanes.{with_items}
 use Rattle.mr_threads.specs.declared.core_parts.Replies.{Replies}
 use Rattle.mr_threads.specs.declared.core_parts.Feeds.{Feeds}
-use Rattle.mr_threads.specs.declared.core_parts.Core.{Core}
-use Rattle.mr_threads.specs.Core.{GivesAnswers, TellsBoth, TellsPart, Serves, ServesPart, RanShort, closed_replies, closed_feeds, letters_with_senders}
-use Rattle.mr_threads.specs.inner.Core.{GivesAnswer, Serving, ServingPart}
 
 -- ---- lists
 

@@ -1,24 +1,13 @@
 -- What follows once all lanes are settled.
 use Rattle.std.proofs.Common.{◌≡◌, true, List, [], ◌∷◌, ◌++◌, sym, refl, ap, ◌∙◌, arith}
-use Rattle.mr_feed.specs.declared.entry.Entry.{Entry}
-use Rattle.mr_lane.specs.declared.note.Sender.{Sender}
+use Rattle.mr_threads.proofs.Names.{Core, Entry, Exchange, FeedTaps, IsInterleaving, IsNewCore, Note, Posts, Ran, Sender, TapEnd, Taps, letters_by}
+use Rattle.mr_threads.proofs.Names.{letters_in, letters_said, letters_with_senders, said_by, with_end, with_items}
 use Rattle.mr_lane.specs.declared.note.Sender.TheVariants.{User, FirstLink, SecondLink}
-use Rattle.mr_lane.specs.declared.note.Note.{Note}
-use Rattle.mr_lane.specs.declared.post.Posts.{Posts}
 use Rattle.mr_lane.specs.Piece.{pieces}
 use Rattle.mr_lane.specs.Note.{sender_number, pieces_by}
 use Rattle.mr_lane.specs.Inbox.{IsSettled}
-use Rattle.mr_lane.specs.Letters.{letters_in, letters_by}
-use Rattle.mr_lane.specs.Tap.{TapEnd, with_end}
 use Rattle.mr_lane.proofs.LetterLemmas.{letters-all}
-use Rattle.mr_threads.specs.Exchange.{Exchange, letters_said, said_by}
-use Rattle.mr_threads.specs.Lanes.{with_items}
-use Rattle.mr_threads.specs.Core.{letters_with_senders, Ran, IsNewCore}
-use Rattle.mr_threads.specs.Settled.{IsInterleaving}
 use Rattle.mr_threads.specs.inner.Settled.{TookAll, TookAllEntries}
-use Rattle.mr_threads.specs.declared.core_parts.Core.{Core}
-use Rattle.mr_threads.specs.declared.settling.Taps.{Taps}
-use Rattle.mr_threads.specs.declared.settling.FeedTaps.{FeedTaps}
 
 module _ {E A : Type 0} where
   by-exchanges : (sender : Sender) (xs : List (Exchange E A)) → letters_by sender (letters_with_senders xs) ≡ letters_said (said_by sender xs)

@@ -1,14 +1,8 @@
 -- A voice that has spoken, finished, hung up and heard the rest.
 use Rattle.std.proofs.Common.{◌≡◌, true, List, ◌++◌, Result, OnOk, OnErr, arith}
-use Rattle.mr_lane.specs.Post.{with_end_mark}
-use Rattle.mr_threads.specs.Exchange.{Said}
-use Rattle.mr_threads.specs.Talk.{Says, SaysInPart, SpokeInTurn, IsNew}
-use Rattle.mr_threads.specs.inner.Talk.{HearsOut}
-use Rattle.mr_threads.specs.Ends.{HasSpoken}
-use Rattle.mr_threads.specs.declared.talk.Talk.{Talk}
+use Rattle.mr_threads.proofs.Names.{HasSpoken, HearsOut, IsNew, Said, Says, SaysInPart, SpokeInTurn, Talk, Voice, with_end_mark}
 use Rattle.mr_threads.specs.declared.talk.Halt.{Halt}
 use Rattle.mr_threads.proofs.Saying.{says_in_part}
-use Rattle.mr_threads.specs.declared.voice.Voice.{Voice}
 
 module _ {S E A R : Type 0} (speaks : S → List (Said E A) → S → Type 0) where
   -- old is the voice, said its talk once it spoke, heard the voice that has run

@@ -1,21 +1,10 @@
 -- What follows for roles whose parts have all run whole.
 use Rattle.std.proofs.Common.{◌≡◌, ℕ, Bool, true, ◌&&◌, true≢false, List, [], ◌∷◌, ◌++◌, refl, arith}
-use Rattle.std.specs.Prelude.{IsTrue}
-use Rattle.mr_mail.specs.Mail.{MailCard}
-use Rattle.mr_model.specs.Headline.{Cards}
-use Rattle.mr_feed.specs.declared.entry.Entry.{Entry}
-use Rattle.mr_lane.specs.declared.note.Sender.{Sender}
-use Rattle.mr_threads.specs.Exchange.{Said, Exchange, letters_said, answers_heard, said_by}
-use Rattle.mr_threads.specs.Ends.{VoiceRan, ListenerRan}
-use Rattle.mr_threads.specs.Settled.{IsInterleaving}
-use Rattle.mr_threads.specs.inner.Running.{AllRan, are_all_whole}
+use Rattle.mr_threads.proofs.Names.{AllRan, Cards, Entry, Exchange, FeedTaps, IsInterleaving, IsTrue, ListenerRan, MailCard, Posts, Said, Sender, Taps, Voice}
+use Rattle.mr_threads.proofs.Names.{VoiceRan, answers_heard, are_all_whole, letters_said, said_by}
 use Rattle.mr_threads.specs.inner.Outfit.{posts_of, taps_of, feed_taps_of, AreJoined, IsOutfit}
 use Rattle.mr_threads.specs.Roles.{HadConversation, TookEntries, RolesRan}
 use Rattle.mr_threads.specs.inner.Roles.{spoken_of, heard_of}
-use Rattle.mr_lane.specs.declared.post.Posts.{Posts}
-use Rattle.mr_threads.specs.declared.settling.Taps.{Taps}
-use Rattle.mr_threads.specs.declared.settling.FeedTaps.{FeedTaps}
-use Rattle.mr_threads.specs.declared.voice.Voice.{Voice}
 use Rattle.mr_threads.specs.declared.voice.VoiceEnd.{VoiceEnd}
 use Rattle.mr_threads.specs.declared.listener.Listener.{Listener}
 use Rattle.mr_threads.specs.declared.listener.ListenerEnd.{ListenerEnd}

@@ -1,30 +1,17 @@
 -- Records, requests, receipts and frames are read from their parts.
 use Rattle.std.proofs.Common.{◌≡◌, ◌≢◌, ℕ, ◌≤◌, ◌<◌, ◌^◌, true, List, [], ◌∷◌, Option, Some, None, refl, subst, arith}
-use Rattle.std.specs.Prelude.{IfSome, IsSomeAnd, MatchOption, nat_le}
-use Rattle.std.specs.Global.{Vec}
-use Rattle.std.specs.Int.{w32}
-use Rattle.std.proofs.lemmas.Bool.{leb-true, le-leb, eqb-true}
-use Rattle.mr_filter.specs.Filter.{ClauseParts}
-use Rattle.mr_wire.specs.declared.frame.Header.{Header}
-use Rattle.mr_wire.specs.declared.frame.Body.{Body}
+use Rattle.mr_wire.proofs.Names.{Body, ClauseParts, DescentParts, FragmentsRise, Header, IfSome, IsFramed, IsHeader, IsIndexOf, IsQuestion, IsSent, IsSomeAnd}
+use Rattle.mr_wire.proofs.Names.{Kind, MatchOption, Name, Piece, Question, Reader, Receipt, Sent, Stands, Vec, as_at, ask_at, asked_at, author_at, body_at}
+use Rattle.mr_wire.proofs.Names.{descent_at, eqb-true, filter_at, fragment_at, fragment_bytes, frame_at, header_at, header_bytes, index_fits, le-leb}
+use Rattle.mr_wire.proofs.Names.{least_follows, least_item, leb-true, mode_at, nat_le, next_asked, number_at, receipt_at, record_at, revision_at, serial_at}
+use Rattle.mr_wire.proofs.Names.{u64, vector_at, w32}
 use Rattle.mr_wire.specs.declared.frame.Body.TheVariants as body
-use Rattle.mr_wire.specs.declared.frame.Receipt.{Receipt}
 use Rattle.mr_wire.specs.declared.frame.Frame.TheVariants as frame
-use Rattle.mr_wire.specs.declared.kind.Kind.{Kind}
 use Rattle.mr_wire.specs.declared.kind.Kind.TheVariants as kind
-use Rattle.mr_wire.specs.Values.{DescentParts, Piece, least_item}
-use Rattle.mr_wire.specs.Frames.{Sent, Question, IsSent, IsIndexOf, IsQuestion, FragmentsRise, least_follows}
-use Rattle.mr_wire.specs.Reading.{Reader, number_at, as_at, Stands}
-use Rattle.mr_wire.specs.Parts.{author_at, filter_at, descent_at, vector_at, fragment_at}
-use Rattle.mr_wire.specs.FrameParts.{mode_at, revision_at, serial_at, header_at, body_at, index_fits, record_at, asked_at, next_asked, ask_at, receipt_at, frame_at}
 use Rattle.mr_wire.specs.inner.Bodies.{asked_run}
 use Rattle.mr_wire.proofs.Laws.{Reads, RunFits, bind_some, some_is, reads_like, reads_only, reads_as, reads_then, reads_run, reads_u32, reads_u64}
 use Rattle.mr_wire.proofs.PartLaws.{reads_author}
-use Rattle.mr_version.specs.Name.{Name}
-use Rattle.mr_wire.specs.Spelling.{u64, fragment_bytes}
-use Rattle.mr_wire.specs.FrameSpelling.{header_bytes}
 use Rattle.mr_wire.proofs.ItemLemmas.{reads_fragment}
-use Rattle.mr_wire.specs.Grammar.{IsFramed, IsHeader}
 
 -- ---- one part seen as another value
 

@@ -1,23 +1,10 @@
 -- A column is read from its parts.
 use Rattle.std.proofs.Common.{◌≡◌, ℕ, ◌<◌, ◌≤◌, ◌||◌, Bool, true, false, ◌&&◌, List, [], ◌∷◌, length, Option, Some, None, refl, sym, ap, ◌∙◌, arith}
-use Rattle.std.specs.Prelude.{IfSome, IsSomeAnd, nat_le, not, ◌==◌}
-use Rattle.std.specs.List.{list_any}
-use Rattle.std.specs.Global.{Vec}
-use Rattle.std.specs.Int.{w16}
-use Rattle.std.proofs.lemmas.Bool.{le-leb, ne_eqb, eqb-true, lt-leb}
+use Rattle.mr_wire.proofs.Names.{AreHad, AreIn, AreSeen, AuthorColumn, Counters, Head, Hole, IfSome, IsColumn, IsHead, IsSomeAnd, IsVectorFrom, Seen, Stands}
+use Rattle.mr_wire.proofs.Names.{Vec, Watch, author_at, column_at, column_has, columns_at, counter_at, empty_column, eqb-true, hole_has, holes_at}
+use Rattle.mr_wire.proofs.Names.{is_in_column, le-leb, list_any, lt-leb, name_of_place, nat_le, ne_eqb, not, number_at, vector_at, vector_has, w16, ◌==◌}
 use Rattle.std.proofs.lemmas.Bool.Decides.{leb_tells}
-use Rattle.mr_concise.specs.declared.column.Hole.{Hole}
-use Rattle.mr_concise.specs.declared.vector.AuthorColumn.{AuthorColumn}
-use Rattle.mr_concise.specs.Column.{IsColumn, empty_column, column_has, hole_has}
-use Rattle.mr_wire.specs.declared.vector.Counters.{Counters}
-use Rattle.mr_wire.specs.declared.vector.Seen.{Seen}
-use Rattle.mr_wire.specs.declared.vector.Head.{Head}
-use Rattle.mr_wire.specs.declared.vector.Watch.{Watch}
 use Rattle.mr_wire.specs.declared.vector.Place.{Place}
-use Rattle.mr_concise.specs.Vector.{IsVectorFrom, vector_has}
-use Rattle.mr_wire.specs.inner.Watch.{AreSeen, IsHead, AreIn, AreHad, is_in_column, name_of_place}
-use Rattle.mr_wire.specs.Reading.{number_at, Stands}
-use Rattle.mr_wire.specs.Parts.{author_at, counter_at, holes_at, column_at, columns_at, vector_at}
 use Rattle.mr_wire.proofs.PartLaws.{reads_counter, reads_hole, after_hole, holes_rise, reads_column, after_column, columns_stand}
 use Rattle.mr_wire.proofs.Laws.{reads_run}
 

@@ -1,20 +1,9 @@
 -- What is decoded is spelled by the bytes that it took, and what is spelled is decoded again.
 use Rattle.std.proofs.Common.{◌≡◌, ℕ, ◌+◌, ◌≤◌, Bool, true, false, cond, eqb, ◌||◌, ◌&&◌, List, [], ◌∷◌, ◌++◌, length, take, Some, None, Result, Ok, Err, ◌⊎◌, inl, inr, refl, sym, ap, subst, ◌∙◌, arith}
-use Rattle.std.specs.Prelude.{IfOk, not}
-use Rattle.std.proofs.lemmas.Bool.{eqb-true}
-use Rattle.std.proofs.lemmas.List.{append-nil, length-append}
-use Rattle.mr_wire.specs.declared.decoding.TheConstants.{MAX_REST_BYTES}
+use Rattle.mr_wire.proofs.Names.{Answers, BadBody, Frame, IfOk, IsFrame, Kind, MAX_REST_BYTES, Spells, append-nil, decoded, eqb-true, frame_at}
+use Rattle.mr_wire.proofs.Names.{kind_and_parts, kind_byte, kind_of, kind_of_byte, length-append, not, part_bytes, rest_bytes, rest_faults, u32, whole_frame}
 use Rattle.mr_wire.specs.declared.fault.WireFault.{WireFault}
-use Rattle.mr_wire.specs.declared.fault.WireFault.TheVariants.{BadBody}
-use Rattle.mr_wire.specs.declared.frame.Frame.{Frame}
-use Rattle.mr_wire.specs.declared.kind.Kind.{Kind}
 use Rattle.mr_wire.specs.declared.kind.Kind.TheVariants as kind
-use Rattle.mr_wire.specs.Kinds.{kind_byte, kind_of_byte}
-use Rattle.mr_wire.specs.Spelling.{u32}
-use Rattle.mr_wire.specs.FrameParts.{frame_at}
-use Rattle.mr_wire.specs.FrameSpelling.{part_bytes, kind_of, rest_bytes}
-use Rattle.mr_wire.specs.Grammar.{IsFrame, Spells}
-use Rattle.mr_wire.specs.Decoding.{rest_faults, kind_and_parts, whole_frame, decoded, Answers}
 use Rattle.mr_wire.proofs.Laws.{bind_some, test_some}
 use Rattle.mr_wire.proofs.PrefixLaws.{or_ok, test_ok, kind_step, whole_found, value_takes, value_again, same_front}
 use Rattle.mr_wire.proofs.FrameLaws.{frame_takes, frame_again}

@@ -1,24 +1,11 @@
 -- A version of an item with what it supersedes: its law, and that it is read from its parts.
 use Rattle.std.proofs.Common.{◌≡◌, ℕ, Bool, true, false, cond, ◌&&◌, List, length, Option, Some, None, refl, sym, ap, ◌∙◌, arith}
-use Rattle.std.specs.Prelude.{IfSome, IsSomeAnd, not, ◌==◌, if◌then◌else◌}
-use Rattle.std.proofs.lemmas.Bool.{eqb-true}
-use Rattle.std.proofs.lemmas.List.{nil_from_length}
-use Rattle.mr_version.specs.Name.{Name, name_eq}
-use Rattle.mr_mail.specs.Mail.{Mail}
-use Rattle.mr_concise.specs.declared.vector.AuthorColumn.{AuthorColumn}
-use Rattle.mr_concise.specs.Vector.{vector_has}
-use Rattle.mr_madewith.specs.Revision.{Rev, IsRevision}
+use Rattle.mr_wire.proofs.Names.{AreHad, AuthorColumn, DescentParts, IfSome, IsDescent, IsRevision, IsSomeAnd, Mail, Name, Rev, Stands, Watch, descent_at}
+use Rattle.mr_wire.proofs.Names.{descent_bytes, eqb-true, if◌then◌else◌, is_descent, message_at, name_at, name_eq, name_of_place, nil_from_length, not}
+use Rattle.mr_wire.proofs.Names.{rev_with, revision_at, vector_at, vector_has, ◌==◌}
 use Rattle.mr_madewith.proofs.Rising.{name_eq_self, same_names}
 use Rattle.mr_wire.specs.declared.vector.Told.{Told}
-use Rattle.mr_wire.specs.declared.vector.Watch.{Watch}
-use Rattle.mr_wire.specs.inner.Watch.{AreHad, name_of_place}
-use Rattle.mr_wire.specs.Values.{DescentParts}
-use Rattle.mr_wire.specs.Grammar.{IsDescent}
-use Rattle.mr_wire.specs.Reading.{Stands}
-use Rattle.mr_wire.specs.Parts.{name_at, vector_at, is_descent, descent_at, message_at}
-use Rattle.mr_wire.specs.FrameParts.{rev_with, revision_at}
 use Rattle.mr_wire.specs.inner.FrameParts.{descent_with}
-use Rattle.mr_wire.specs.Spelling.{descent_bytes}
 use Rattle.mr_wire.proofs.Laws.{Reads, and_left, and_right, reads_like, reads_only, reads_as, reads_then}
 use Rattle.mr_wire.proofs.PartLaws.{reads_name, reads_vector, both}
 

@@ -1,21 +1,14 @@
 -- The laws of labels, clauses and filters.
 use Rattle.std.proofs.Common.{◌≡◌, ℕ, ◌+◌, ◌<◌, ◌≤◌, true, ◌&&◌, List, [], ◌∷◌, length, Option, Some, None, refl, arith}
-use Rattle.std.specs.Prelude.{nat_le}
-use Rattle.std.specs.List.{flat_map, list_all, AllByRecursion}
+use Rattle.mr_wire.proofs.Names.{All-from_recursion, AllByRecursion, ClauseParts, IsClause, IsFilter, IsLabelSet, clause_at, clause_bytes, clause_with}
+use Rattle.mr_wire.proofs.Names.{filter_at, filter_bytes, flags_at, flat_map, is_label, is_label_byte, label_at, label_bytes, label_follows, labels_at}
+use Rattle.mr_wire.proofs.Names.{labels_bytes, le-leb, leb-true, list_all, nat_le, next_label, number_at, only_at, recursion_from_All, run_at, text_cmp, u8}
+use Rattle.mr_wire.proofs.Names.{w8}
 use Rattle.std.specs.List.Sorted.{IsStrictlySortedBy}
-use Rattle.std.specs.Int.{w8}
 use Rattle.std.specs.declared.cmp.Ordering.TheVariants.{Less}
 use Rattle.std.specs.Ordering.{is_lt}
 use Rattle.std.specs.declared.cmp.Ordering.{Ordering}
 use Rattle.std.specs.Cmp.Lexicographic.{nat_list_cmp_total}
-use Rattle.std.proofs.lemmas.Bool.{leb-true, le-leb}
-use Rattle.std.proofs.lemmas.List.Elements.{All-from_recursion, recursion_from_All}
-use Rattle.mr_mail.specs.Label.{is_label, is_label_byte, text_cmp, IsLabelSet}
-use Rattle.mr_filter.specs.Filter.{ClauseParts, IsClause, IsFilter, clause_with}
-use Rattle.mr_wire.specs.Reading.{number_at, only_at, run_at}
-use Rattle.mr_wire.specs.Spelling.{u8, label_bytes, labels_bytes, clause_bytes, filter_bytes}
-use Rattle.mr_wire.specs.inner.Labels.{next_label}
-use Rattle.mr_wire.specs.Parts.{label_follows, label_at, labels_at, flags_at, clause_at, filter_at}
 use Rattle.mr_wire.proofs.Laws.{Reads, RunFits, and_left, and_right, reads_like, reads_only, reads_as, reads_then, reads_counted, reads_run, reads_u8, reads_u16, reads_bytes}
 use Rattle.mr_wire.proofs.PartLaws.{both}
 

@@ -1,14 +1,7 @@
 -- Labels, clauses and filters are read from their parts.
 use Rattle.std.proofs.Common.{◌≡◌, ℕ, ◌≤◌, ◌+◌, List, length, Option, Some, None, refl, ◌∙◌, arith}
-use Rattle.std.specs.Prelude.{IfSome, IsSomeAnd, nat_le, if◌then◌else◌}
-use Rattle.std.specs.Global.{Vec}
-use Rattle.std.specs.Int.{w8, w16}
-use Rattle.std.proofs.lemmas.Bool.{le-leb}
-use Rattle.mr_mail.specs.Label.{IsLabelSet}
-use Rattle.mr_filter.specs.Filter.{ClauseParts, IsFilter, clause_with}
-use Rattle.mr_wire.specs.inner.Labels.{next_label}
-use Rattle.mr_wire.specs.Reading.{number_at, run_at, Stands}
-use Rattle.mr_wire.specs.Parts.{label_at, labels_at, flags_at, clause_at, filter_at}
+use Rattle.mr_wire.proofs.Names.{ClauseParts, IfSome, IsFilter, IsLabelSet, IsSomeAnd, Stands, Vec, clause_at, clause_with, filter_at, flags_at}
+use Rattle.mr_wire.proofs.Names.{if◌then◌else◌, label_at, labels_at, le-leb, nat_le, next_label, number_at, run_at, w16, w8}
 use Rattle.mr_wire.proofs.Laws.{reads_run}
 use Rattle.mr_wire.proofs.FilterLaws.{reads_label, reads_label_set, reads_filter, same_clause}
 

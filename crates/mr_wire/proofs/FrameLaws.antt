@@ -1,29 +1,14 @@
 -- The laws of what stands behind the kind of a frame.
 use Rattle.std.proofs.Common.{◌≡◌, ℕ, ◌≤◌, ◌<◌, true, List, [], ◌∷◌, ◌++◌, length, Option, Some, None, refl, sym, ap, subst, ◌∙◌, arith, append_assoc}
-use Rattle.std.specs.Prelude.{nat_le}
-use Rattle.std.specs.List.{AllByRecursion}
-use Rattle.std.specs.Int.{w8}
-use Rattle.std.proofs.lemmas.Bool.{leb-true, le-leb, eq-eqb}
-use Rattle.mr_version.specs.Name.{Name}
-use Rattle.mr_mail.specs.Mail.{Mail}
-use Rattle.mr_filter.specs.Filter.{ClauseParts}
-use Rattle.mr_madewith.specs.Revision.{Rev}
+use Rattle.mr_wire.proofs.Names.{AllByRecursion, Body, ClauseParts, DescentParts, FragmentsRise, Frame, Header, IsAsked, IsDescent, IsFrame, IsFramed}
+use Rattle.mr_wire.proofs.Names.{IsHeader, IsIndexOf, IsLetter, IsSaid, Kind, Mail, Name, Piece, Question, Reader, Receipt, Rev, Sent, as_at, ask_at}
+use Rattle.mr_wire.proofs.Names.{ask_bytes, body_at, body_bytes, descent_bytes, descent_of, eq-eqb, frame_at, header_at, header_bytes, index_fits, kind_of}
+use Rattle.mr_wire.proofs.Names.{kind_of_body, le-leb, least_item, leb-true, message_bytes, mode_at, mode_byte, mode_of, nat_le, next_asked, number_at}
+use Rattle.mr_wire.proofs.Names.{only_at, part_bytes, receipt_at, record_at, rev_with, revision_at, then_at, u16, u8, w8, ◌>>=◌}
 use Rattle.mr_wire.specs.declared.frame.Mode.{Mode}
-use Rattle.mr_wire.specs.declared.frame.Header.{Header}
-use Rattle.mr_wire.specs.declared.frame.Body.{Body}
 use Rattle.mr_wire.specs.declared.frame.Body.TheVariants as body
-use Rattle.mr_wire.specs.declared.frame.Receipt.{Receipt}
-use Rattle.mr_wire.specs.declared.frame.Frame.{Frame}
 use Rattle.mr_wire.specs.declared.frame.Frame.TheVariants as frame
-use Rattle.mr_wire.specs.declared.kind.Kind.{Kind}
 use Rattle.mr_wire.specs.declared.kind.Kind.TheVariants as kind
-use Rattle.mr_wire.specs.Values.{DescentParts, Piece, least_item}
-use Rattle.mr_wire.specs.Frames.{Sent, Question, IsIndexOf, FragmentsRise}
-use Rattle.mr_wire.specs.Reading.{Reader, ◌>>=◌, number_at, only_at, as_at, then_at}
-use Rattle.mr_wire.specs.FrameParts.{mode_of, mode_at, revision_at, rev_with, header_at, body_at, index_fits, record_at, next_asked, ask_at, receipt_at, frame_at}
-use Rattle.mr_wire.specs.Spelling.{u8, u16, descent_bytes, message_bytes}
-use Rattle.mr_wire.specs.FrameSpelling.{header_bytes, mode_byte, descent_of, body_bytes, ask_bytes, part_bytes, kind_of_body, kind_of}
-use Rattle.mr_wire.specs.Grammar.{IsDescent, IsLetter, IsFramed, IsHeader, IsSaid, IsAsked, IsFrame}
 use Rattle.mr_wire.proofs.Laws.{Reads, RunFits, bind_some, some_is, reads_like, reads_only, reads_as, reads_then, reads_counted, reads_run, reads_u8, reads_u32}
 use Rattle.mr_wire.proofs.PartLaws.{reads_author, reads_vector}
 use Rattle.mr_wire.proofs.FilterLaws.{reads_filter}

@@ -1,19 +1,10 @@
 -- Items and fragments: their laws, and that they are read from their parts.
 use Rattle.std.proofs.Common.{◌≡◌, ℕ, ◌≤◌, Bool, true, false, cond, eqb, ◌&&◌, List, [], ◌∷◌, ◌++◌, length, Option, Some, None, ◌⊎◌, inl, inr, refl, sym, ap, subst, ◌∙◌, arith, lit<, append_assoc}
-use Rattle.std.specs.Prelude.{IfSome, IsSomeAnd, nat_le}
-use Rattle.std.specs.Global.{Vec}
-use Rattle.std.specs.Int.{w8, w32}
-use Rattle.std.specs.List.{flat_map, AllByRecursion}
-use Rattle.std.proofs.lemmas.Bool.{le-leb, leb-true, eqb-true}
-use Rattle.mr_version.specs.Name.{Name}
+use Rattle.mr_wire.proofs.Names.{AllByRecursion, AreFramed, AreItems, AuthorColumn, IfSome, IsFramed, IsItem, IsSomeAnd, ItemsRise, Name, Piece, Stands, Vec}
+use Rattle.mr_wire.proofs.Names.{as_at, eqb-true, first_item, first_or, flat_map, fragment_at, fragment_bytes, item_at, item_follows, items_at, items_bytes}
+use Rattle.mr_wire.proofs.Names.{le-leb, least_item, leb-true, listed_items, listed_items_at, name_bytes, nat_le, next_item, number_at, only_at, u32, u8}
+use Rattle.mr_wire.proofs.Names.{vector_at, w32, w8}
 use Rattle.mr_forms.specs.declared.fragment.ItemSet.{ItemSet}
-use Rattle.mr_concise.specs.declared.vector.AuthorColumn.{AuthorColumn}
-use Rattle.mr_wire.specs.Values.{Piece, AreItems, ItemsRise, item_follows, listed_items, least_item}
-use Rattle.mr_wire.specs.inner.Items.{first_or, first_item, next_item}
-use Rattle.mr_wire.specs.Grammar.{IsItem, AreFramed, IsFramed}
-use Rattle.mr_wire.specs.Reading.{number_at, only_at, as_at, Stands}
-use Rattle.mr_wire.specs.Parts.{item_at, listed_items_at, items_at, vector_at, fragment_at}
-use Rattle.mr_wire.specs.Spelling.{u8, u32, name_bytes, items_bytes, fragment_bytes}
 use Rattle.mr_wire.proofs.Laws.{Reads, RunFits, bind_some, some_is, and_left, and_right, reads_like, reads_only, reads_as, reads_then, reads_counted, reads_run, reads_u8, reads_u32}
 use Rattle.mr_wire.proofs.PartLaws.{reads_name, reads_vector, both}
 

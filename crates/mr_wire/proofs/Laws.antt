@@ -1,12 +1,10 @@
 -- What is read respells the bytes that it took, and what is spelled is read again.
 use Rattle.std.proofs.Common.{◌≡◌, ℕ, zero, suc, ◌^◌, ◌<◌, ◌≤◌, ◌%◌, ◌&&◌, Bool, true, false, cond, ltb, List, [], ◌∷◌, ◌++◌, length, get_or, take, drop, Option, Some, None, refl, sym, ap, subst, ◌∙◌, append_assoc, arith}
-use Rattle.std.specs.List.{flat_map, list_all}
-use Rattle.std.specs.Int.{Width, w8, w16, w32, w64, byte_len, from_be_bytes, to_be_bytes}
-use Rattle.std.proofs.lemmas.Bool.{ltb-false, ltb-true, le-ltb, lt-ltb}
-use Rattle.std.proofs.lemmas.List.{take_at, drop_at, take-append-drop, length-append, length-take}
-use Rattle.std.proofs.lemmas.List.Concat.{flat_map-cons}
+use Rattle.mr_wire.proofs.Names.{Reader, Width, as_at, byte_len, bytes_at, counted_at, drop_at, flat_map, flat_map-cons, from_be_bytes, is_byte, le-ltb}
+use Rattle.mr_wire.proofs.Names.{length-append, length-take, list_all, lt-ltb, ltb-false, ltb-true, number_at, only_at, take-append-drop, take_at}
+use Rattle.mr_wire.specs.Reading.{run_at}
+use Rattle.mr_wire.proofs.Names.{then_at, to_be_bytes, w16, w32, w64, w8, ◌>>=◌}
 use Rattle.std.proofs.lemmas.Nat.{be_bytes_2, be_bytes_4, be_bytes_8, from_be_bytes-to_be_bytes_2, from_be_bytes-to_be_bytes_4, from_be_bytes-to_be_bytes_8}
-use Rattle.mr_wire.specs.Reading.{Reader, ◌>>=◌, is_byte, number_at, bytes_at, only_at, as_at, then_at, counted_at, run_at}
 
 pub record Reads {X : Type 0} (fits : X → Type 0) (spell : X → List ℕ) (at : Reader X) : Type 0 where
   pub takes : (bytes : List ℕ) (x : X) (rest : List ℕ) → at bytes ≡ Some (x, rest) → (bytes ≡ spell x ++ rest) × fits x

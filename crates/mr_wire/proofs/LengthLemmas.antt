@@ -1,15 +1,7 @@
 -- How many bytes parts take.
 use Rattle.std.proofs.Common.{◌≡◌, ◌+◌, ◌*◌, List, [], ◌∷◌, length, refl, ap, arith}
-use Rattle.std.specs.List.{flat_map}
-use Rattle.std.proofs.lemmas.List.{length-append}
-use Rattle.std.proofs.lemmas.List.Concat.{flat_map-cons, length-flat_map}
-use Rattle.mr_version.specs.Name.{Name}
-use Rattle.mr_concise.specs.declared.column.Hole.{Hole}
-use Rattle.mr_concise.specs.declared.vector.AuthorColumn.{AuthorColumn}
-use Rattle.mr_wire.specs.Frames.{Question}
-use Rattle.mr_wire.specs.Spelling.{name_bytes, hole_bytes, column_bytes, filter_bytes}
-use Rattle.mr_wire.specs.FrameSpelling.{ask_bytes}
-use Rattle.mr_wire.specs.Encoding.{total_len}
+use Rattle.mr_wire.proofs.Names.{AuthorColumn, Hole, Name, Question, ask_bytes, column_bytes, filter_bytes, flat_map, flat_map-cons, hole_bytes}
+use Rattle.mr_wire.proofs.Names.{length-append, length-flat_map, name_bytes, total_len}
 
 length-holes : (holes : List Hole) → length (flat_map hole_bytes holes) ≡ 8 * length holes
 length-holes [] = refl

@@ -1,3 +1,4 @@
+pub mod Names
 pub mod RunLemmas
 pub mod WatchLemmas
 pub mod Laws

@@ -1,18 +1,9 @@
 -- Messages are read from their parts.
 use Rattle.std.proofs.Common.{◌≡◌, ℕ, ◌≤◌, ◌<◌, ◌^◌, true, false, List, ◌++◌, length, Option, Some, refl, arith, lit<, append_assoc}
-use Rattle.std.specs.Prelude.{IfSome, IsSomeAnd, nat_le}
-use Rattle.std.specs.Global.{Vec}
-use Rattle.std.specs.Int.{w16, w32}
+use Rattle.mr_wire.proofs.Names.{IfSome, IsLabelSet, IsLetter, IsSomeAnd, Mail, Stands, Vec, card_bytes, flags_at, labels_at, le-leb, leb-true, message_at}
+use Rattle.mr_wire.proofs.Names.{message_body_at, message_bytes, message_with, nat_le, number_at, only_at, text_at, u16, u32, w16, w32}
 use Rattle.std.specs.Str.{IsUtf8, is_utf8}
-use Rattle.std.proofs.lemmas.Bool.{le-leb, leb-true}
 use Rattle.std.proofs.lemmas.Str.{IsUtf8-from_is_utf8, is_utf8-from_IsUtf8}
-use Rattle.mr_mail.specs.Label.{IsLabelSet}
-use Rattle.mr_mail.specs.Mail.{Mail}
-use Rattle.mr_wire.specs.inner.Labels.{message_with}
-use Rattle.mr_wire.specs.Grammar.{IsLetter}
-use Rattle.mr_wire.specs.Reading.{number_at, only_at, Stands}
-use Rattle.mr_wire.specs.Parts.{text_at, message_body_at, labels_at, flags_at, message_at}
-use Rattle.mr_wire.specs.Spelling.{u16, u32, card_bytes, message_bytes}
 use Rattle.mr_wire.proofs.Laws.{Reads, reads_like, reads_only, reads_as, reads_then, reads_counted, reads_bytes, reads_u16, reads_u32}
 use Rattle.mr_wire.proofs.FilterLaws.{reads_label_set, reads_flags}
 use Rattle.mr_wire.proofs.FilterLemmas.{if_set}

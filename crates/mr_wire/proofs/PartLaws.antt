@@ -1,18 +1,9 @@
 -- The laws of each part.
 use Rattle.std.proofs.Common.{◌≡◌, ℕ, ◌+◌, ◌^◌, ◌<◌, ◌≤◌, Bool, true, ◌&&◌, List, [], ◌∷◌, ◌++◌, length, refl, arith}
-use Rattle.std.specs.Prelude.{nat_le, nat_lt}
-use Rattle.std.specs.List.{flat_map}
-use Rattle.std.specs.Int.{w16}
-use Rattle.std.proofs.lemmas.Bool.{ltb-true, lt-ltb, leb-true, le-leb}
-use Rattle.mr_version.specs.Name.{Name, IsVersion}
-use Rattle.mr_concise.specs.declared.column.Hole.{Hole}
-use Rattle.mr_concise.specs.declared.vector.AuthorColumn.{AuthorColumn}
+use Rattle.mr_wire.proofs.Names.{AuthorColumn, Hole, IsColumn, IsVectorFrom, IsVersion, Name, author_at, column_at, column_bytes, column_holes_at, counter_at}
+use Rattle.mr_wire.proofs.Names.{flat_map, hole_at, hole_bytes, hole_edges, le-leb, leb-true, lt-ltb, ltb-true, name_at, name_bytes, nat_le, nat_lt}
+use Rattle.mr_wire.proofs.Names.{number_at, only_at, u16, u32, vector_at, vector_bytes, w16}
 use Rattle.mr_concise.specs.Edges.{IsRising}
-use Rattle.mr_concise.specs.Column.{IsColumn, hole_edges}
-use Rattle.mr_concise.specs.Vector.{IsVectorFrom}
-use Rattle.mr_wire.specs.Reading.{number_at, only_at}
-use Rattle.mr_wire.specs.Spelling.{u16, u32, name_bytes, hole_bytes, column_bytes, vector_bytes}
-use Rattle.mr_wire.specs.Parts.{author_at, counter_at, name_at, hole_at, column_holes_at, column_at, vector_at}
 use Rattle.mr_wire.proofs.Laws.{Reads, RunFits, and_left, and_right, reads_like, reads_only, reads_as, reads_then, reads_counted, reads_run, reads_u16, reads_u32}
 
 pub reads_author : Reads (λ n. n < 64) u16 author_at

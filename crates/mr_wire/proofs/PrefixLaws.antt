@@ -1,12 +1,7 @@
 -- What is found behind a length was spelled there, and what is spelled there is found again, over any type of faults.
 use Rattle.std.proofs.Common.{◌≡◌, ℕ, ◌+◌, ◌≤◌, ◌<◌, ◌^◌, Bool, true, false, cond, eqb, List, [], ◌++◌, length, take, Option, Some, Result, Ok, Err, refl, sym, ap, subst, ◌∙◌, arith, append_assoc}
-use Rattle.std.specs.Prelude.{nat_lt}
-use Rattle.std.specs.Int.{w32}
-use Rattle.std.proofs.lemmas.Bool.{ltb-false, le-ltb, eqb-true}
-use Rattle.std.proofs.lemmas.List.{nil_from_length, length-append, take_at}
-use Rattle.mr_wire.specs.declared.decoding.TheConstants.{MAX_REST_BYTES}
-use Rattle.mr_wire.specs.Reading.{Reader, ◌>>=◌, number_at, bytes_at}
-use Rattle.mr_wire.specs.Spelling.{u32}
+use Rattle.mr_wire.proofs.Names.{MAX_REST_BYTES, Reader, bytes_at, eqb-true, le-ltb, length-append, ltb-false, nat_lt, nil_from_length, number_at, take_at}
+use Rattle.mr_wire.proofs.Names.{u32, w32, ◌>>=◌}
 use Rattle.mr_wire.specs.Prefixed.{or_fault, and_then, RestFaults, rest_from, rest_of, whole_at}
 use Rattle.mr_wire.proofs.Laws.{bind_some, test_some, reads_u32, reads_bytes}
 

@@ -1,17 +1,7 @@
 -- what is written of a frame's parts
 use Rattle.std.proofs.Common.{◌≡◌, ℕ, zero, suc, ◌+◌, ◌<◌, List, [], ◌∷◌, ◌++◌, length, get_or, take, Result, ap, sym, ◌∙◌, append_assoc, arith}
-use Rattle.std.proofs.lemmas.List.{append-nil, take_more}
-use Rattle.std.proofs.lemmas.List.Concat.{flat_map-append}
-use Rattle.std.specs.List.{flat_map}
-use Rattle.std.specs.Prelude.{OnOk}
-use Rattle.mr_concise.specs.declared.vector.AuthorColumn.{AuthorColumn}
-use Rattle.mr_concise.specs.Column.{IsColumn}
-use Rattle.mr_concise.specs.Vector.{IsVectorFrom}
-use Rattle.mr_wire.specs.Kinds.{kind_byte}
-use Rattle.mr_wire.specs.Spelling.{u32}
-use Rattle.mr_wire.specs.FrameSpelling.{part_bytes, kind_of, frame_bytes}
-use Rattle.mr_wire.specs.declared.frame.Frame.{Frame}
-use Rattle.mr_wire.specs.declared.kind.Kind.{Kind}
+use Rattle.mr_wire.proofs.Names.{AuthorColumn, Frame, IsColumn, IsVectorFrom, Kind, OnOk, append-nil, flat_map, flat_map-append, frame_bytes, kind_byte}
+use Rattle.mr_wire.proofs.Names.{kind_of, part_bytes, take_more, u32}
 
 -- a column of a vector is one
 pub column_of_vector : (xs : List AuthorColumn) (low i : ℕ) (d : AuthorColumn) → i < length xs → IsVectorFrom low xs → IsColumn ((get_or xs i d).column)

@@ -1,18 +1,10 @@
 -- Worked rows: frames whose bytes were worked out by hand, in both formats.
 use Rattle.std.proofs.Common.{◌≡◌, ℕ, refl, List, [], ◌∷◌, ◌++◌, Some, None, Ok, Err}
-use Rattle.mr_version.specs.Name.{Name}
-use Rattle.mr_concise.specs.declared.column.Hole.{Hole}
-use Rattle.mr_concise.specs.declared.vector.AuthorColumn.{AuthorColumn}
-use Rattle.mr_wire.specs.declared.fault.WireFault.TheVariants.{Truncated, TooLong, BadFormat, BadKind, BadBody}
-use Rattle.mr_wire.specs.declared.frame.Header.{Header}
-use Rattle.mr_wire.specs.declared.frame.Body.TheVariants.{MoveOut, Know}
-use Rattle.mr_wire.specs.declared.frame.Frame.{Frame}
-use Rattle.mr_wire.specs.declared.frame.Frame.TheVariants as frame
-use Rattle.mr_wire.specs.Values.{Piece}
+use Rattle.mr_wire.proofs.Names.{AuthorColumn, BadBody, BadFormat, BadKind, Frame, Header, Hole, Name, Piece, TooLong, Truncated, decoded, frame_bytes}
+use Rattle.mr_wire.proofs.Names.{total_len}
 use Rattle.mr_wire.specs.Reading.{run_at}
-use Rattle.mr_wire.specs.FrameSpelling.{frame_bytes}
-use Rattle.mr_wire.specs.Encoding.{total_len}
-use Rattle.mr_wire.specs.Decoding.{decoded}
+use Rattle.mr_wire.specs.declared.frame.Body.TheVariants.{MoveOut, Know}
+use Rattle.mr_wire.specs.declared.frame.Frame.TheVariants as frame
 
 abbrev name : ℕ → ℕ → Name
 name author counter = record { author = author; counter = counter }

@@ -1,9 +1,7 @@
 -- Loops that read one part after the other. What is read so far, put before what is to be read, is what is read from the start.
 use Rattle.std.proofs.Common.{◌≡◌, ℕ, suc, ◌+◌, ◌-◌, ◌<◌, ◌≤◌, List, [], ◌∷◌, ◌++◌, Option, Some, None, sym, ap, ◌∙◌, append_assoc, arith}
-use Rattle.std.specs.Prelude.{IfSome}
-use Rattle.std.specs.Global.{Vec}
-use Rattle.std.proofs.lemmas.List.{append-nil}
-use Rattle.mr_wire.specs.Reading.{Reader, ◌>>=◌, run_at, Stands, KeepsMore}
+use Rattle.mr_wire.proofs.Names.{IfSome, KeepsMore, Reader, Stands, Vec, append-nil, ◌>>=◌}
+use Rattle.mr_wire.specs.Reading.{run_at}
 
 abbrev pub with_front : {X : Type 0} → List X → Option (List X × List ℕ) → Option (List X × List ℕ)
 with_front front read = read >>= λ x. Some (front ++ x.0, x.1)

@@ -1,14 +1,7 @@
 -- what is told of two versions while a vector is read
 use Rattle.std.proofs.Common.{◌≡◌, Bool, false, ◌||◌, List, [], ◌∷◌, ◌++◌, ap, ◌∙◌, arith}
-use Rattle.std.specs.List.{list_any}
+use Rattle.mr_wire.proofs.Names.{AreIn, AreSeen, AuthorColumn, Counters, Head, Hole, IsHead, Seen, Watch, either_seen, list_any, seen_with}
 use Rattle.std.proofs.lemmas.List.Folds.{list_any-append}
-use Rattle.mr_concise.specs.declared.column.Hole.{Hole}
-use Rattle.mr_wire.specs.declared.vector.Counters.{Counters}
-use Rattle.mr_wire.specs.declared.vector.Seen.{Seen}
-use Rattle.mr_wire.specs.declared.vector.Head.{Head}
-use Rattle.mr_wire.specs.declared.vector.Watch.{Watch}
-use Rattle.mr_concise.specs.declared.vector.AuthorColumn.{AuthorColumn}
-use Rattle.mr_wire.specs.inner.Watch.{AreSeen, AreIn, IsHead, seen_with, either_seen}
 
 or_false : (b : Bool) → (b || false) ≡ b
 or_false b = grind arith

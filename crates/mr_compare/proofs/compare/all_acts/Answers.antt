@@ -1,5 +1,4 @@
-use Rattle.std.specs.Prelude.{map}
-use Rattle.mr_compare.specs.Sides.{standing_of_held, standing_of_unheld}
+use Rattle.mr_compare.proofs.Names.{map, standing_of_held, standing_of_unheld}
 use Rattle.mr_compare.proofs.CompareLemmas.{due-both}
 use Rattle.mr_compare.proofs.compare.all_acts.Goals as goal
 

@@ -1,7 +1,5 @@
 use Rattle.std.proofs.Common.{◌++◌, ap, ◌∙◌}
-use Rattle.mr_compare.specs.Compare.{due}
-use Rattle.mr_compare.specs.Sides.{standing_of_held}
-use Rattle.mr_compare.specs.declared.compare.Standing.{Standing}
+use Rattle.mr_compare.proofs.Names.{Standing, due, standing_of_held}
 use Rattle.mr_compare.proofs.CompareLemmas.{due-more}
 use Rattle.mr_compare.proofs.compare.push_held.Goals as goal
 

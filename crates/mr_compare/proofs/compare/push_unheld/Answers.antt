@@ -1,8 +1,5 @@
 use Rattle.std.proofs.Common.{◌++◌, [], ap, slice_index_or, ◌∙◌}
-use Rattle.std.proofs.lemmas.List.{get_or_default}
-use Rattle.mr_compare.specs.Compare.{due}
-use Rattle.mr_compare.specs.Sides.{standing_of_unheld}
-use Rattle.mr_compare.specs.declared.compare.Standing.{Standing}
+use Rattle.mr_compare.proofs.Names.{Standing, due, get_or_default, standing_of_unheld}
 use Rattle.mr_compare.proofs.CompareLemmas.{due-more}
 use Rattle.mr_compare.proofs.compare.push_unheld.Goals as goal
 

@@ -1,6 +1,5 @@
 use Rattle.std.proofs.Common.{◌≡◌, ◌++◌, map, take}
-use Rattle.mr_compare.specs.Compare.{due_acts}
-use Rattle.mr_compare.specs.Sides.{standing_of_unheld}
+use Rattle.mr_compare.proofs.Names.{due_acts, standing_of_unheld}
 use Rattle.mr_compare.proofs.compare.push_unheld.Given as goal
 
 -- what is done for the mails so far

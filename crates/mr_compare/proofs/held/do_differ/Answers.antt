@@ -1,8 +1,5 @@
 use Rattle.std.proofs.Common.{map, ap, sym, ◌∙◌}
-use Rattle.std.specs.Prelude.{not}
-use Rattle.mr_maildir.specs.View.{view_eq}
-use Rattle.mr_maildir.specs.Merging.{differ}
-use Rattle.mr_compare.specs.Held.{view_at}
+use Rattle.mr_compare.proofs.Names.{differ, not, view_at, view_eq}
 use Rattle.mr_compare.proofs.HeldLemmas.{all-map}
 use Rattle.mr_compare.proofs.held.do_differ.Goals as goal
 

@@ -1,8 +1,5 @@
 use Rattle.std.proofs.Common.{◌≡◌, map, ap, ◌∙◌}
-use Rattle.std.specs.Option.{option_copied}
-use Rattle.std.proofs.lemmas.Result.{IfOk-weaker}
-use Rattle.mr_maildir.specs.Merging.{merged_view, over}
-use Rattle.mr_compare.specs.Held.{view_at}
+use Rattle.mr_compare.proofs.Names.{IfOk-weaker, merged_view, option_copied, over, view_at}
 use Rattle.mr_compare.proofs.HeldLemmas.{merged_any_order}
 use Rattle.mr_compare.proofs.held.item_view.Goals as goal
 

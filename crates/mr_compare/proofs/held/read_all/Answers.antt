@@ -1,6 +1,5 @@
 use Rattle.std.proofs.Common.{sym, subst}
-use Rattle.std.proofs.lemmas.List.{append-nil}
-use Rattle.mr_compare.specs.Held.{AreRead}
+use Rattle.mr_compare.proofs.Names.{AreRead, append-nil}
 use Rattle.mr_compare.proofs.HeldLemmas.{read_further}
 use Rattle.mr_compare.proofs.held.read_all.Goals as goal
 

@@ -1,6 +1,5 @@
 use Rattle.std.proofs.Common.{List, ◌++◌, take}
-use Rattle.mr_madewith.specs.Revision.{Rev}
-use Rattle.mr_compare.specs.Held.{AreRead}
+use Rattle.mr_compare.proofs.Names.{AreRead, Rev}
 use Rattle.mr_compare.proofs.held.read_all.Given as goal
 
 -- the revisions so far were read

@@ -1,8 +1,7 @@
 use Rattle.std.proofs.Common.{Some, None, refl, sym, ap, subst, ◌∙◌}
 use Rattle.std.specs.Str.{IsUtf8}
-use Rattle.std.proofs.lemmas.List.{append-nil}
+use Rattle.mr_compare.proofs.Names.{RefersToNone, append-nil}
 use Rattle.mr_maildir.specs.Reference.{parts_of}
-use Rattle.mr_compare.specs.Held.{RefersToNone}
 use Rattle.mr_compare.proofs.held.read_one.Goals as goal
 
 pub returns-in-None : goal.returns-in-None

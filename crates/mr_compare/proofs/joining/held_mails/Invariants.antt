@@ -1,6 +1,5 @@
 use Rattle.std.proofs.Common.{◌≡◌, ◌++◌}
-use Rattle.std.specs.List.{flat_map}
-use Rattle.mr_compare.specs.Joining.{held_entry}
+use Rattle.mr_compare.proofs.Names.{flat_map, held_entry}
 use Rattle.mr_compare.proofs.joining.held_mails.Given as goal
 
 -- the mails so far and those of the entries that are left are all

@@ -1,6 +1,5 @@
 use Rattle.std.proofs.Common.{◌≡◌, ◌++◌, map}
-use Rattle.std.specs.List.{flat_map}
-use Rattle.mr_compare.specs.Joining.{standing_parts, standings_at}
+use Rattle.mr_compare.proofs.Names.{flat_map, standing_parts, standings_at}
 use Rattle.mr_compare.proofs.joining.item_standings.Given as goal
 
 -- the items so far and those of the entries that are left are all

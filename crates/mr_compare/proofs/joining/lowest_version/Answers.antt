@@ -1,6 +1,5 @@
 use Rattle.std.proofs.Common.{◌++◌, ap, take, ◌∙◌}
-use Rattle.std.specs.List.{flat_map}
-use Rattle.mr_compare.specs.Joining.{lowest, versions_in}
+use Rattle.mr_compare.proofs.Names.{flat_map, lowest, versions_in}
 use Rattle.mr_compare.proofs.JoiningLemmas.{lowest-walk}
 use Rattle.mr_compare.proofs.joining.lowest_version.Goals as goal
 

@@ -1,6 +1,5 @@
 use Rattle.std.proofs.Common.{◌≡◌, ◌++◌, List, take}
-use Rattle.mr_version.specs.Name.{Name}
-use Rattle.mr_compare.specs.Joining.{lowest}
+use Rattle.mr_compare.proofs.Names.{Name, lowest}
 use Rattle.mr_compare.proofs.joining.lowest_with.Given as goal
 
 abbrev pub invariant-loop-version : goal.invariant-loop-version

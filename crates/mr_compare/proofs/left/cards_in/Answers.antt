@@ -1,6 +1,5 @@
 use Rattle.std.proofs.Common.{ap, ◌∙◌}
-use Rattle.std.specs.Option.{is_some}
-use Rattle.mr_compare.specs.Left.{told_last}
+use Rattle.mr_compare.proofs.Names.{is_some, told_last}
 use Rattle.mr_compare.proofs.LeftLemmas.{cards_step}
 use Rattle.mr_compare.proofs.left.cards_in.Goals as goal
 

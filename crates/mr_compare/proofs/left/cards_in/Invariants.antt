@@ -1,7 +1,5 @@
 use Rattle.std.proofs.Common.{◌≡◌, cond, take, None}
-use Rattle.std.specs.Option.{is_some}
-use Rattle.mr_version.specs.Name.{Name}
-use Rattle.mr_compare.specs.Left.{told_last, card_left, item_cards}
+use Rattle.mr_compare.proofs.Names.{Name, card_left, is_some, item_cards, told_last}
 use Rattle.mr_compare.proofs.left.cards_in.Given as goal
 
 -- what the entries up to here leave of the items that changed

@@ -1,6 +1,5 @@
 use Rattle.std.proofs.Common.{cond, Some, ap, ◌∙◌}
-use Rattle.mr_version.specs.Name.{name_eq}
-use Rattle.mr_compare.specs.Left.{told_last}
+use Rattle.mr_compare.proofs.Names.{name_eq, told_last}
 use Rattle.mr_compare.proofs.LeftLemmas.{changed_more}
 use Rattle.mr_compare.proofs.left.changed_in.Goals as goal
 

@@ -1,6 +1,5 @@
 use Rattle.std.proofs.Common.{◌≡◌, take}
-use Rattle.mr_version.specs.Name.{Name}
-use Rattle.mr_compare.specs.Left.{told_last, last_told}
+use Rattle.mr_compare.proofs.Names.{Name, last_told, told_last}
 use Rattle.mr_compare.proofs.left.changed_in.Given as goal
 
 -- what the entries up to here tell last

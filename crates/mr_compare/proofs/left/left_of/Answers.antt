@@ -1,7 +1,5 @@
 use Rattle.std.proofs.Common.{cond, drop, Option, None, ap, ◌∙◌}
-use Rattle.std.specs.Option.{is_some}
-use Rattle.mr_mail.specs.Mail.{MailCard}
-use Rattle.mr_compare.specs.Left.{item_cards, last_told, is_told}
+use Rattle.mr_compare.proofs.Names.{MailCard, is_some, is_told, item_cards, last_told}
 use Rattle.mr_compare.proofs.left.left_of.Goals as goal
 
 pub returns-clause-changed : goal.returns-clause-changed

@@ -1,9 +1,5 @@
 use Rattle.std.proofs.Common.{◌≡◌, ◌++◌}
-use Rattle.std.specs.List.{flat_map}
-use Rattle.mr_version.specs.Name.{Name}
-use Rattle.mr_mail.specs.Mail.{MailCard}
-use Rattle.mr_compare.specs.Joining.{at_item}
-use Rattle.mr_compare.specs.MailsLeft.{card_view, cards_told, with_digest}
+use Rattle.mr_compare.proofs.Names.{MailCard, Name, at_item, card_view, cards_told, flat_map, with_digest}
 use Rattle.mr_compare.proofs.mails_left.all_cards.Given as goal
 
 -- the cards so far and those of the entries that are left are all

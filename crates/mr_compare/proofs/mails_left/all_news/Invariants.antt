@@ -1,10 +1,6 @@
 use Rattle.std.proofs.Common.{◌≡◌, ◌++◌, Option}
-use Rattle.std.specs.List.{flat_map}
+use Rattle.mr_compare.proofs.Names.{MailCard, Name, at_item, flat_map, news_told, with_digest}
 use Rattle.std.specs.Prelude.{is_some}
-use Rattle.mr_version.specs.Name.{Name}
-use Rattle.mr_mail.specs.Mail.{MailCard}
-use Rattle.mr_compare.specs.Joining.{at_item}
-use Rattle.mr_compare.specs.MailsLeft.{news_told, with_digest}
 use Rattle.mr_compare.proofs.mails_left.all_news.Given as goal
 
 -- the news so far and those of the entries that are left are all

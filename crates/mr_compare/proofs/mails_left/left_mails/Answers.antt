@@ -1,11 +1,7 @@
 use Rattle.std.proofs.Common.{◌++◌, ℕ, List, ap, sym, ◌∙◌}
 use Rattle.std.proofs.lemmas.Iterator.Adapters.{YieldsList-from_vec}
 use Rattle.std.proofs.lemmas.Iterator.Consumers.{YieldsList-end}
-use Rattle.std.proofs.lemmas.List.{map-id}
-use Rattle.mr_mail.specs.Label.{text_cmp}
-use Rattle.mr_maildir.specs.View.{ViewParts}
-use Rattle.mr_compare.specs.Gather.{values_at, values_of}
-use Rattle.mr_compare.specs.MailsLeft.{cards_told, news_told, stayed_views}
+use Rattle.mr_compare.proofs.Names.{ViewParts, cards_told, map-id, news_told, stayed_views, text_cmp, values_at, values_of}
 use Rattle.mr_compare.proofs.JoiningLemmas.{left_all, left_more}
 use Rattle.mr_compare.proofs.mails_left.left_mails.Goals as goal
 

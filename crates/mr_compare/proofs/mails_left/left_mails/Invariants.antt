@@ -1,8 +1,5 @@
 use Rattle.std.proofs.Common.{◌≡◌, ◌++◌, ℕ, List}
-use Rattle.mr_mail.specs.Label.{text_cmp}
-use Rattle.mr_compare.specs.Gather.{values_at, values_of}
-use Rattle.mr_compare.specs.MailsLeft.{left_mail, stayed_views}
-use Rattle.mr_compare.specs.Sides.{at_digest}
+use Rattle.mr_compare.proofs.Names.{at_digest, left_mail, stayed_views, text_cmp, values_at, values_of}
 use Rattle.mr_compare.proofs.mails_left.left_mails.Given as goal
 
 -- what was left of the mails whose items are told so far

@@ -1,7 +1,5 @@
 use Rattle.std.proofs.Common.{◌≡◌, ◌++◌, ℕ, Bool, List, filter}
-use Rattle.std.specs.BTreeMap.{keys}
-use Rattle.std.specs.Prelude.{◌&&◌}
-use Rattle.mr_compare.specs.MailsLeft.{is_absent}
+use Rattle.mr_compare.proofs.Names.{is_absent, keys, ◌&&◌}
 use Rattle.mr_compare.proofs.mails_left.push_left.Given as goal
 
 -- the digests so far and those of the keys that are left are all

@@ -1,7 +1,5 @@
 use Rattle.std.proofs.Common.{◌∙◌, subst}
-use Rattle.std.proofs.lemmas.List.Elements.{All-more}
-use Rattle.mr_wire.specs.Grammar.{IsItem}
-use Rattle.mr_wire.specs.Spelling.{name_bytes}
+use Rattle.mr_compare.proofs.Names.{All-more, IsItem, name_bytes}
 use Rattle.mr_wire.proofs.PutLemmas.{run_more}
 use Rattle.mr_compare.proofs.note.put_items.Goals as goal
 

@@ -1,8 +1,5 @@
 use Rattle.std.proofs.Common.{◌≡◌, ◌++◌, take}
-use Rattle.std.specs.Prelude.{All}
-use Rattle.std.specs.List.{flat_map}
-use Rattle.mr_wire.specs.Spelling.{name_bytes}
-use Rattle.mr_wire.specs.Grammar.{IsItem}
+use Rattle.mr_compare.proofs.Names.{All, IsItem, flat_map, name_bytes}
 use Rattle.mr_compare.proofs.note.put_items.Given as goal
 
 abbrev pub invariant-loop-item : goal.invariant-loop-item

@@ -1,6 +1,5 @@
 use Rattle.std.proofs.Common.{◌≡◌, ℕ, List, Option, map, sym, subst, ◌∙◌}
-use Rattle.std.specs.Prelude.{IfOk}
-use Rattle.mr_compare.specs.Sides.{standing_of_held, standing_of_unheld}
+use Rattle.mr_compare.proofs.Names.{IfOk, standing_of_held, standing_of_unheld}
 use Rattle.mr_compare.proofs.UndecidedLemmas.{first_of_both, first_of_others}
 use Rattle.mr_compare.proofs.undecided.first_of.Goals as goal
 

@@ -1,6 +1,5 @@
 use Rattle.std.proofs.Common.{◌≡◌, drop, map}
-use Rattle.mr_compare.specs.Sides.{standing_of_held}
-use Rattle.mr_compare.specs.Undecided.{first_undecided}
+use Rattle.mr_compare.proofs.Names.{first_undecided, standing_of_held}
 use Rattle.mr_compare.proofs.undecided.first_of_held.Given as goal
 
 -- the first one is among those that are left

@@ -1,8 +1,6 @@
 use Rattle.std.proofs.Common.{◌≡◌, All, None, Option, List, ℕ, sym, ◌∙◌}
-use Rattle.std.proofs.lemmas.Result.{IfOk-weaker}
-use Rattle.mr_compare.specs.Sides.{standings_by}
+use Rattle.mr_compare.proofs.Names.{IfOk-weaker, IsHeeded, standings_by}
 use Rattle.mr_compare.specs.Undecided as specs
-use Rattle.mr_compare.specs.Undecided.{IsHeeded}
 use Rattle.mr_compare.proofs.UndecidedLemmas.{all_heeded}
 use Rattle.mr_compare.proofs.undecided.first_undecided.Goals as goal
 

@@ -1,9 +1,5 @@
 use Rattle.std.proofs.Common.{arith, sym, ap, ◌∙◌, ◌≡◌}
-use Rattle.std.proofs.lemmas.Result.{IfOk-weaker}
-use Rattle.std.proofs.lemmas.List.{get_or_default}
-use Rattle.mr_concise.specs.Column.{Extent, empty_column}
-use Rattle.mr_concise.specs.declared.vector.AuthorColumn.{AuthorColumn}
-use Rattle.mr_concise.specs.Vector.{column_of, with_column}
+use Rattle.mr_concise.proofs.Names.{AuthorColumn, Extent, IfOk-weaker, column_of, empty_column, get_or_default, with_column}
 use Rattle.mr_concise.proofs.VectorLemmas.{column_of-at, column_of-past, column_of-missed}
 use Rattle.mr_concise.proofs.AppendLemmas.{appended, run-appended, run-set}
 use Rattle.mr_concise.proofs.fragments.append_run.Goals as goal

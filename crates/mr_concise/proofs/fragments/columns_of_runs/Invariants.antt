@@ -1,7 +1,5 @@
 use Rattle.std.proofs.Common.{take}
-use Rattle.mr_forms.specs.Sets.{IsSame}
-use Rattle.mr_forms.specs.Runs.{in_runs}
-use Rattle.mr_concise.specs.Vector.{vector_has, IsVectorFrom}
+use Rattle.mr_concise.proofs.Names.{IsSame, IsVectorFrom, in_runs, vector_has}
 use Rattle.mr_concise.proofs.fragments.columns_of_runs.Given as goal
 
 -- the columns of the runs so far

@@ -1,7 +1,5 @@
 use Rattle.std.proofs.Common.{rules, arith, ◌≡◌, []}
-use Rattle.std.proofs.lemmas.Grind.{common_steps}
-use Rattle.std.specs.Vec.Iter.{into_iter_items}
-use Rattle.mr_concise.specs.Fragments.{IsTooHoley}
+use Rattle.mr_concise.proofs.Names.{IsTooHoley, common_steps, into_iter_items}
 use Rattle.mr_concise.proofs.FragmentLemmas.{ConciseSoFar-begin, ConciseSoFar-more, ConciseSoFar-end, holey-among}
 use Rattle.mr_concise.proofs.fragments.concise_fragments.Goals as goal
 

@@ -1,6 +1,5 @@
 use Rattle.std.proofs.Common.{◌<◌, ◌≤◌, ◌-◌, ◌∙◌, sym, get_or, length, arith}
-use Rattle.std.proofs.lemmas.Bool.{true≢false, leb-true, ltb-true, lt-leb}
-use Rattle.mr_concise.specs.declared.column.Hole.{Hole}
+use Rattle.mr_concise.proofs.Names.{Hole, leb-true, lt-leb, ltb-true, true≢false}
 use Rattle.mr_concise.proofs.HoleLemmas.{place-between, same-last}
 use Rattle.mr_concise.proofs.holes.is_hole_place.Goals as goal
 use Rattle.mr_concise.proofs.holes.is_hole_place.Goals.{then-at-holes+then-at-eq0, then-at-holes+else-at-eq0, else-at-holes}

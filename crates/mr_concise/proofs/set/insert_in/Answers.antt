@@ -1,9 +1,5 @@
 use Rattle.std.proofs.Common.{arith, sym, ap, ◌∙◌, ◌≡◌}
-use Rattle.std.proofs.lemmas.Result.{on_ok_weaker}
-use Rattle.mr_concise.specs.Column.{Extent, empty_column, with_counter}
-use Rattle.std.proofs.lemmas.List.{get_or_default}
-use Rattle.mr_concise.specs.declared.vector.AuthorColumn.{AuthorColumn}
-use Rattle.mr_concise.specs.Vector.{column_of, with_column}
+use Rattle.mr_concise.proofs.Names.{AuthorColumn, Extent, column_of, empty_column, get_or_default, on_ok_weaker, with_column, with_counter}
 use Rattle.mr_concise.proofs.VectorLemmas.{column_of-at, column_of-past, column_of-missed}
 use Rattle.mr_concise.proofs.VectorInsertLemmas.{with_one-set, few-empty}
 use Rattle.mr_concise.proofs.set.insert_in.Goals as goal

@@ -1,6 +1,5 @@
 use Rattle.std.proofs.Common.{arith, ap, refl, ◌≡◌, ◌+◌, ◌-◌, List, get_or, drop}
-use Rattle.std.proofs.lemmas.List.{drop_more}
-use Rattle.mr_concise.specs.declared.column.Hole.{Hole}
+use Rattle.mr_concise.proofs.Names.{Hole, drop_more}
 use Rattle.mr_concise.proofs.RunLemmas.{next_hole, runs-begin, runs-run, runs-skip, runs-end, drop-at_end}
 use Rattle.mr_concise.proofs.set.push_runs.Goals as goal
 use Rattle.mr_concise.proofs.set.push_runs.Goals.{then-start-hole+in_ok-push, else-start-hole}

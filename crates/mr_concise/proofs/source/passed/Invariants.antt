@@ -1,7 +1,5 @@
 use Rattle.std.proofs.Common.{take}
-use Rattle.mr_forms.specs.Runs.{of_author}
-use Rattle.mr_concise.specs.AnyOf.{in_any}
-use Rattle.mr_concise.specs.inner.AnyOf.{IsPassed}
+use Rattle.mr_concise.proofs.Names.{IsPassed, in_any, of_author}
 use Rattle.mr_concise.proofs.source.passed.Given as goal
 
 abbrev pub invariant-loop-source : goal.invariant-loop-source

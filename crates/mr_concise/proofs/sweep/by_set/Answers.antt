@@ -1,7 +1,5 @@
 use Rattle.std.proofs.Common.{◌∙◌, subst}
-use Rattle.std.specs.Prelude.{IfOk}
-use Rattle.mr_forms.specs.Sets.{Versions, IsSame, is_listed}
-use Rattle.mr_concise.specs.Vector.{vector_has, IsVectorOf}
+use Rattle.mr_concise.proofs.Names.{IfOk, IsSame, IsVectorOf, Versions, is_listed, vector_has}
 use Rattle.mr_concise.proofs.SweepLemmas.{few_from_holes}
 use Rattle.mr_concise.proofs.VersionLemmas.{listed-more, listed-end}
 use Rattle.mr_concise.proofs.sweep.by_set.Goals as goal

@@ -1,5 +1,4 @@
-use Rattle.std.proofs.lemmas.Bool.{ltb-true, ltb-false}
-use Rattle.mr_forms.specs.Runs.{of_author}
+use Rattle.mr_concise.proofs.Names.{ltb-false, ltb-true, of_author}
 use Rattle.mr_concise.proofs.SweepLemmas.{at_most-from_holes, many-from_holes}
 use Rattle.mr_concise.proofs.sweep.has_many_holes.Goals as goal
 

@@ -1,8 +1,7 @@
 use Rattle.std.proofs.Common.{◌-◌}
-use Rattle.mr_forms.specs.Runs.{of_author}
+use Rattle.mr_concise.proofs.Names.{COUNTERS_END, of_author}
 use Rattle.mr_concise.proofs.SweepLemmas.{SweptCount}
 use Rattle.mr_concise.proofs.sweep.hole_count.Given as goal
-use Rattle.mr_concise.specs.declared.column.TheConstants.{COUNTERS_END}
 
 -- the holes found so far are as many as count
 abbrev pub invariant-loop-start : goal.invariant-loop-start

@@ -1,6 +1,5 @@
 use Rattle.std.proofs.Common.{◌-◌, ◌<◌, ◌≤◌, ℕ}
-use Rattle.mr_forms.specs.Runs.{of_author}
-use Rattle.mr_concise.specs.Source.{HasAtMostHoles, ColumnsHaveAtMost}
+use Rattle.mr_concise.proofs.Names.{ColumnsHaveAtMost, HasAtMostHoles, of_author}
 use Rattle.mr_concise.proofs.sweep.most_holes.Given as goal
 
 -- the most holes of the authors so far

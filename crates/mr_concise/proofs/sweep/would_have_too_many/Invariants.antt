@@ -1,6 +1,5 @@
 use Rattle.std.proofs.Common.{◌-◌, ◌<◌, ℕ}
-use Rattle.mr_forms.specs.Runs.{of_author}
-use Rattle.mr_concise.specs.inner.Source.{HasFewHoles}
+use Rattle.mr_concise.proofs.Names.{HasFewHoles, of_author}
 use Rattle.mr_concise.proofs.sweep.would_have_too_many.Given as goal
 
 abbrev pub invariant-loop-author : goal.invariant-loop-author

@@ -1,8 +1,5 @@
 use Rattle.std.proofs.Common.{◌≡◌, ◌≤◌, arith, length}
-use Rattle.std.proofs.lemmas.Bool.{ltb-false}
-use Rattle.mr_forms.specs.Sets.{both}
-use Rattle.mr_forms.specs.Runs.{of_author}
-use Rattle.mr_concise.specs.Vector.{column_of, vector_has}
+use Rattle.mr_concise.proofs.Names.{both, column_of, ltb-false, of_author, vector_has}
 use Rattle.mr_concise.proofs.LoneLemmas.{first_alone, second_alone, at_least-from_column}
 use Rattle.mr_concise.proofs.union.both_have_fewer_holes.Goals as goal
 

@@ -1,7 +1,6 @@
 use Rattle.std.proofs.Common.{take_all}
 use Rattle.mr_concise.proofs.ChangeLemmas.{ChangedTo-begin, ChangedTo-push, ChangedTo-skip}
-use Rattle.mr_concise.specs.inner.Source.{HasManyHoles}
-use Rattle.mr_concise.specs.Vector.{column_of}
+use Rattle.mr_concise.proofs.Names.{HasManyHoles, column_of}
 use Rattle.mr_concise.proofs.ManyLemmas.{if-none, many-merged}
 use Rattle.mr_concise.proofs.MergeLemmas.{has_one}
 use Rattle.mr_concise.proofs.union.changed_columns.Goals as goal

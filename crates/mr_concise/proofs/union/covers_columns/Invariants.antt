@@ -1,6 +1,5 @@
 use Rattle.std.proofs.Common.{take}
-use Rattle.mr_forms.specs.Sets.{Covers}
-use Rattle.mr_concise.specs.Vector.{vector_has}
+use Rattle.mr_concise.proofs.Names.{Covers, vector_has}
 use Rattle.mr_concise.proofs.union.covers_columns.Given as goal
 
 abbrev pub invariant-loop-x : goal.invariant-loop-x

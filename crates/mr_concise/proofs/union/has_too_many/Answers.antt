@@ -1,6 +1,5 @@
 use Rattle.std.proofs.Common.{take_all, refl}
-use Rattle.mr_forms.specs.Sets.{both}
-use Rattle.mr_concise.specs.Vector.{vector_has}
+use Rattle.mr_concise.proofs.Names.{both, vector_has}
 use Rattle.mr_concise.proofs.SweepLemmas.{few-of_authors}
 use Rattle.mr_concise.proofs.ChangeLemmas.{HaveFew-begin, HaveFew-more, many-both}
 use Rattle.mr_concise.proofs.union.has_too_many.Goals as goal

@@ -1,5 +1,4 @@
-use Rattle.std.specs.Vec.{vec_len, vec_capacity}
-use Rattle.std.specs.Vec.Iter.{into_iter_items}
+use Rattle.mr_concise.proofs.Names.{into_iter_items, vec_capacity, vec_len}
 use Rattle.mr_concise.proofs.UnionLemmas.{PutSoFar-more}
 use Rattle.mr_concise.proofs.union.put_all.Goals as goal
 

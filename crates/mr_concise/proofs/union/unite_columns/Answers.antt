@@ -1,6 +1,4 @@
-use Rattle.mr_forms.specs.Sets.{both}
-use Rattle.mr_concise.specs.Vector.{vector_has}
-use Rattle.mr_concise.specs.inner.Vector.{with_columns}
+use Rattle.mr_concise.proofs.Names.{both, vector_has, with_columns}
 use Rattle.mr_concise.proofs.LoneLemmas.{few-from_vector}
 use Rattle.mr_concise.proofs.union.unite_columns.Goals as goal
 

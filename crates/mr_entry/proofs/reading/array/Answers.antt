@@ -1,6 +1,5 @@
 use Rattle.std.proofs.Common.{sym, ◌∙◌}
-use Rattle.std.proofs.lemmas.List.{length-replicate}
-use Rattle.mr_wire.proofs.Laws.{reads_bytes}
+use Rattle.mr_entry.proofs.Names.{length-replicate, reads_bytes}
 use Rattle.mr_entry.proofs.reading.array.Goals as goal
 
 pub copy_from_slice-requires : goal.copy_from_slice-requires

@@ -1,6 +1,5 @@
 use Rattle.std.proofs.Common.{◌∙◌, ap}
-use Rattle.std.proofs.lemmas.List.{map-id}
-use Rattle.mr_mail.specs.Label.{has_label}
+use Rattle.mr_filter.proofs.Names.{has_label, map-id}
 use Rattle.mr_filter.proofs.SearchLemmas.{is_ok-binary_search}
 use Rattle.mr_filter.proofs.clause.has.Goals as goal
 

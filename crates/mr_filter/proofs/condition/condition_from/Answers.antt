@@ -1,13 +1,7 @@
 use Rattle.std.proofs.Common.{◌≡◌, ℕ, List, Option, Some, None, false, IsTrue, IfNone, codes, arith, refl, sym, ap, ◌∙◌}
-use Rattle.std.specs.Result.{result_ok}
-use Rattle.std.proofs.lemmas.Bool.{false≢true}
+use Rattle.mr_filter.proofs.Names.{Condition, Flag, HasFlag, HasLabel, IsValueOf, LacksFlag, LacksLabel, Since, Spells, bytes_eq-Decides, false≢true}
+use Rattle.mr_filter.proofs.Names.{flag_name, is_label, kind_of, result_ok, text_eq}
 use Rattle.std.proofs.lemmas.Grind.{common_steps}
-use Rattle.std.proofs.lemmas.Slice.Eq.{bytes_eq-Decides}
-use Rattle.mr_mail.specs.declared.flags.Flag.{Flag}
-use Rattle.mr_mail.specs.Flag.{flag_name}
-use Rattle.mr_mail.specs.Label.{is_label, text_eq}
-use Rattle.mr_mail.specs.Day.{Spells}
-use Rattle.mr_filter.specs.Condition.{Condition, HasLabel, LacksLabel, HasFlag, LacksFlag, Since, kind_of, IsValueOf}
 use Rattle.mr_filter.proofs.condition.condition_from.Goals as goal
 
 -- no condition has this kind and this value, if none of each kind has

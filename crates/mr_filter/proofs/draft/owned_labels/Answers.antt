@@ -1,7 +1,5 @@
 use Rattle.std.proofs.Common.{◌≡◌, [], true, subst, arith}
-use Rattle.std.proofs.Math.ListN.{get_or-map}
-use Rattle.std.proofs.lemmas.List.{length-map}
-use Rattle.mr_mail.specs.Label.{is_label}
+use Rattle.mr_filter.proofs.Names.{get_or-map, is_label, length-map}
 use Rattle.mr_filter.proofs.draft.owned_labels.Goals as goal
 
 pub label_of-requires : goal.label_of-requires

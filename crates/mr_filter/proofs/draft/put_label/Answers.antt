@@ -1,10 +1,6 @@
 use Rattle.std.proofs.Common.{◌≡◌, ◌≤◌, ◌∷◌, [], length, false, sym, ◌∙◌, ap, subst, arith}
-use Rattle.std.specs.Result.{is_ok}
-use Rattle.std.specs.List.Sorted.{IsStrictlySortedBy, IsPartitionPoint, IsBinarySearchResult, IsSearchInRange}
-use Rattle.std.specs.declared.cmp.Ordering.TheVariants.{Less, Greater}
-use Rattle.std.proofs.lemmas.List.{length-append, length-map}
-use Rattle.mr_mail.specs.Label.{text_cmp, has_label}
-use Rattle.mr_filter.specs.inner.Written.{lent_texts}
+use Rattle.mr_filter.proofs.Names.{Greater, IsBinarySearchResult, IsPartitionPoint, IsSearchInRange, IsStrictlySortedBy, Less, has_label, is_ok}
+use Rattle.mr_filter.proofs.Names.{length-append, length-map, lent_texts, text_cmp}
 use Rattle.mr_filter.proofs.SearchLemmas.{is_ok-binary_search, partition_point}
 use Rattle.mr_filter.proofs.PlaceLemmas.{rising-insert, AreLabelsOf-insert, AllPass-insert, AreLabelsOf-again, different_labels-one_more}
 use Rattle.mr_filter.proofs.draft.put_label.Goals as goal

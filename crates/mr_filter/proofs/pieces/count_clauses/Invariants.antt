@@ -1,6 +1,5 @@
 use Rattle.std.proofs.Common.{◌≡◌, ◌+◌, ◌≤◌, length}
-use Rattle.mr_filter.specs.Grammar.{clauses_of}
-use Rattle.std.specs.Str.{IsUtf8}
+use Rattle.mr_filter.proofs.Names.{IsUtf8, clauses_of}
 use Rattle.mr_filter.proofs.pieces.count_clauses.Given as goal
 
 abbrev pub invariant-loop-next : goal.invariant-loop-next

@@ -1,7 +1,5 @@
 use Rattle.std.proofs.Common.{◌≡◌, ◌∙◌, ap, ◌++◌, ◌∷◌, [], length, ◌+◌, refl}
-use Rattle.std.specs.Str.{IsUtf8}
-use Rattle.std.proofs.lemmas.Option.{MatchOption-at_some}
-use Rattle.mr_filter.specs.Grammar.{cut_at}
+use Rattle.mr_filter.proofs.Names.{IsUtf8, MatchOption-at_some, cut_at}
 use Rattle.mr_filter.proofs.Progress.{HasPassed-more, cut-front, other_text}
 use Rattle.mr_filter.proofs.pieces.first_bad.Goals as goal
 

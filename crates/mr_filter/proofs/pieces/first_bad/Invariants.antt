@@ -1,7 +1,6 @@
 use Rattle.std.proofs.Common.{length}
-use Rattle.mr_filter.specs.Grammar.{IsClauseInGrammar}
+use Rattle.mr_filter.proofs.Names.{IsClauseInGrammar, IsUtf8}
 use Rattle.mr_filter.proofs.Progress.{HasPassed}
-use Rattle.std.specs.Str.{IsUtf8}
 use Rattle.mr_filter.proofs.pieces.first_bad.Given as goal
 
 abbrev pub invariant-loop-in_clause : goal.invariant-loop-in_clause

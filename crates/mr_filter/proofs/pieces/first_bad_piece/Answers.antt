@@ -1,9 +1,5 @@
 use Rattle.std.proofs.Common.{◌≡◌, ◌∙◌, ap, ◌++◌, ◌∷◌, [], length, ◌+◌, refl}
-use Rattle.std.specs.Str.{IsUtf8}
-use Rattle.std.proofs.lemmas.Option.{MatchOption-at_some}
-use Rattle.mr_filter.specs.Condition.{SpellsCondition}
-use Rattle.mr_filter.specs.Grammar.{cut_at}
-use Rattle.mr_filter.specs.inner.Written.{meaning_of}
+use Rattle.mr_filter.proofs.Names.{IsUtf8, MatchOption-at_some, SpellsCondition, cut_at, meaning_of}
 use Rattle.mr_filter.proofs.Progress.{HasPassed-more, cut-front, at_none, found_at, other_text}
 use Rattle.mr_filter.proofs.pieces.first_bad_piece.Goals as goal
 

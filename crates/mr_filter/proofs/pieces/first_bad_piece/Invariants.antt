@@ -1,7 +1,6 @@
 use Rattle.std.proofs.Common.{length}
-use Rattle.mr_filter.specs.Grammar.{IsCondition}
+use Rattle.mr_filter.proofs.Names.{IsCondition, IsUtf8}
 use Rattle.mr_filter.proofs.Progress.{HasPassed}
-use Rattle.std.specs.Str.{IsUtf8}
 use Rattle.mr_filter.proofs.pieces.first_bad_piece.Given as goal
 
 abbrev pub invariant-loop-piece : goal.invariant-loop-piece

@@ -1,9 +1,6 @@
 use Rattle.std.proofs.Common.{◌≡◌, ◌∙◌, ap, ◌++◌, ◌∷◌, [], ◌+◌, length, refl, subst}
-use Rattle.std.specs.List.{AllByRecursion}
-use Rattle.std.specs.Str.{IsUtf8}
-use Rattle.std.proofs.lemmas.Bool.{false≢true}
-use Rattle.std.proofs.lemmas.Option.{MatchOption-at_some, MatchOption-at_none}
-use Rattle.mr_filter.specs.Grammar.{cut_at, clauses_of, IsClauseInGrammar, NamesTooMany}
+use Rattle.mr_filter.proofs.Names.{AllByRecursion, IsClauseInGrammar, IsUtf8, MatchOption-at_none, MatchOption-at_some, NamesTooMany, clauses_of, cut_at}
+use Rattle.mr_filter.proofs.Names.{false≢true}
 use Rattle.mr_filter.proofs.Progress.{HasPassed-more, HasPassed-all, cut-front}
 use Rattle.mr_filter.proofs.Reading.{at_place}
 use Rattle.mr_filter.proofs.UniqueLemmas.{crowded_at, uncrowded_at}

@@ -1,6 +1,5 @@
 use Rattle.std.proofs.Common.{ℕ, length}
-use Rattle.std.specs.Str.{IsUtf8}
-use Rattle.mr_filter.specs.Grammar.{NamesTooMany}
+use Rattle.mr_filter.proofs.Names.{IsUtf8, NamesTooMany}
 use Rattle.mr_filter.proofs.Progress.{HasPassed}
 use Rattle.mr_filter.proofs.read.is_crowded.Given as goal
 

@@ -1,9 +1,5 @@
 use Rattle.std.proofs.Common.{◌≡◌, ◌∙◌, ap, ◌++◌, ◌∷◌, []}
-use Rattle.std.specs.Str.{IsUtf8}
-use Rattle.std.proofs.lemmas.List.Elements.{All-push}
-use Rattle.std.proofs.lemmas.Option.{MatchOption-at_some, MatchOption-at_none}
-use Rattle.mr_filter.specs.Filter.{IsClause}
-use Rattle.mr_filter.specs.Grammar.{cut_at, clauses_of, IsClauseInGrammar}
+use Rattle.mr_filter.proofs.Names.{All-push, IsClause, IsClauseInGrammar, IsUtf8, MatchOption-at_none, MatchOption-at_some, clauses_of, cut_at}
 use Rattle.mr_filter.proofs.Progress.{cut-front}
 use Rattle.mr_filter.proofs.Reading.{HasReadClauses-more, HasReadClauses-all, at_place}
 use Rattle.mr_filter.proofs.read.read_clauses.Goals as goal

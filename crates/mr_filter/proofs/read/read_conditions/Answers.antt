@@ -1,8 +1,5 @@
 use Rattle.std.proofs.Common.{◌≡◌, ◌∙◌, ap, ◌++◌, ◌∷◌, [], refl}
-use Rattle.std.specs.Str.{IsUtf8}
-use Rattle.std.proofs.lemmas.Option.{MatchOption-at_some, MatchOption-at_none}
-use Rattle.mr_filter.specs.Grammar.{cut_at, pieces_of}
-use Rattle.mr_filter.specs.inner.Written.{meaning_of}
+use Rattle.mr_filter.proofs.Names.{IsUtf8, MatchOption-at_none, MatchOption-at_some, cut_at, meaning_of, pieces_of}
 use Rattle.mr_filter.proofs.DraftLemmas.{IfErr-any}
 use Rattle.mr_filter.proofs.Progress.{cut-front, other_text}
 use Rattle.mr_filter.proofs.Reading.{Combines-none, HasReadConditions-more, HasReadConditions-all, NamesTooMany-so_far, piece_in_grammar}

@@ -1,9 +1,5 @@
 use Rattle.std.proofs.Common.{◌++◌, ◌∙◌, ap, map, codes, string_bytes}
-use Rattle.std.specs.Prelude.{filter}
-use Rattle.std.proofs.lemmas.Result.{IfOk-weaker}
-use Rattle.mr_mail.specs.Flag.{all_flags, flag_name, has_flag}
-use Rattle.mr_mail.specs.Label.{texts_of}
-use Rattle.mr_filter.specs.Text.{IsClauseText, join_or}
+use Rattle.mr_filter.proofs.Names.{IfOk-weaker, IsClauseText, all_flags, filter, flag_name, has_flag, join_or, texts_of}
 use Rattle.mr_filter.proofs.TextLemmas.{IsClauseText-joined}
 use Rattle.mr_filter.proofs.text.clause_text.Goals as goal
 

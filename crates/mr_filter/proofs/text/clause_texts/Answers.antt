@@ -1,7 +1,5 @@
 use Rattle.std.proofs.Common.{◌∷◌, [], ◌∙◌, ap, string_bytes, arith}
-use Rattle.std.proofs.lemmas.List.{map-append}
-use Rattle.mr_mail.specs.Label.{texts_of}
-use Rattle.mr_filter.specs.Text.{IsClauseText}
+use Rattle.mr_filter.proofs.Names.{IsClauseText, map-append, texts_of}
 use Rattle.mr_filter.proofs.TextLemmas.{AllZip-push}
 use Rattle.mr_filter.proofs.text.clause_texts.Goals as goal
 

@@ -1,7 +1,5 @@
 use Rattle.std.proofs.Common.{take}
-use Rattle.std.specs.List.{AllZip}
-use Rattle.mr_mail.specs.Label.{texts_of}
-use Rattle.mr_filter.specs.Text.{IsClauseText}
+use Rattle.mr_filter.proofs.Names.{AllZip, IsClauseText, texts_of}
 use Rattle.mr_filter.proofs.text.clause_texts.Given as goal
 
 abbrev pub invariant-loop-clause : goal.invariant-loop-clause

@@ -1,7 +1,5 @@
 use Rattle.std.proofs.Common.{◌++◌, string_bytes, sym, ◌∙◌, ap}
-use Rattle.std.specs.List.{flat_map}
-use Rattle.mr_mail.specs.Label.{texts_of}
-use Rattle.mr_filter.specs.Text.{join_or}
+use Rattle.mr_filter.proofs.Names.{flat_map, join_or, texts_of}
 use Rattle.mr_filter.proofs.TextLemmas.{join_or-cons}
 use Rattle.mr_filter.proofs.text.joined.Goals as goal
 

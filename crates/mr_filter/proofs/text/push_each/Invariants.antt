@@ -1,6 +1,5 @@
 use Rattle.std.proofs.Common.{◌≡◌, ◌++◌, take, string_bytes}
-use Rattle.std.specs.List.{flat_map}
-use Rattle.mr_mail.specs.Label.{texts_of}
+use Rattle.mr_filter.proofs.Names.{flat_map, texts_of}
 use Rattle.mr_filter.proofs.text.push_each.Given as goal
 
 abbrev pub invariant-loop-part : goal.invariant-loop-part

@@ -1,6 +1,5 @@
 use Rattle.std.proofs.Common.{◌≡◌, ◌++◌, map, take}
-use Rattle.mr_mail.specs.Label.{texts_of}
-use Rattle.mr_mail.specs.Flag.{flag_name}
+use Rattle.mr_filter.proofs.Names.{flag_name, texts_of}
 use Rattle.mr_filter.proofs.text.push_flags.Given as goal
 
 abbrev pub invariant-loop-flag : goal.invariant-loop-flag

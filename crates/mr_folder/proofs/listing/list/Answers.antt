@@ -1,7 +1,5 @@
 use Rattle.std.proofs.Common.{◌≡◌, length, sym, ◌∙◌, subst, arith}
-use Rattle.std.specs.Cmp.Lexicographic.{bytes_decides}
-use Rattle.mr_folder.specs.Quiet.{texts}
-use Rattle.mr_folder.specs.inner.Quiet.{AreNames, AreTimes}
+use Rattle.mr_folder.proofs.Names.{AreNames, AreTimes, bytes_decides, texts}
 use Rattle.mr_folder.proofs.QuietLemmas.{same_times, snapshot, length-texts}
 use Rattle.mr_folder.proofs.listing.list.Goals as goal
 

@@ -1,6 +1,5 @@
 use Rattle.std.proofs.Common.{◌≡◌, [], ◌∷◌, length, length-append, refl, sym, ap, ◌∙◌, subst, arith}
-use Rattle.std.specs.Prelude.{map, string_bytes}
-use Rattle.mr_folder.specs.Quiet.{IsStill, texts}
+use Rattle.mr_folder.proofs.Names.{IsStill, map, string_bytes, texts}
 use Rattle.mr_folder.proofs.QuietLemmas.{no_names, one_more_folder, texts-push, length-texts}
 use Rattle.mr_folder.proofs.listing.names.Goals as goal
 

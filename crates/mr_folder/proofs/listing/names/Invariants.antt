@@ -1,6 +1,5 @@
 use Rattle.std.proofs.Common.{◌≡◌, ◌≤◌, IsTrue, length}
-use Rattle.mr_folder.specs.Quiet.{texts}
-use Rattle.mr_folder.specs.inner.Quiet.{AreNames}
+use Rattle.mr_folder.proofs.Names.{AreNames, texts}
 use Rattle.mr_folder.proofs.listing.names.Given as goal
 
 abbrev pub invariant-loop-folder : goal.invariant-loop-folder

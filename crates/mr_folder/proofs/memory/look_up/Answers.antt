@@ -1,6 +1,5 @@
 use Rattle.std.proofs.Common.{◌+◌, drop, map, sym, ap, ◌∙◌, arith, rules}
-use Rattle.mr_folder.specs.Memory.{step_of, tree_of}
-use Rattle.mr_folder.specs.inner.MemoryFound.{found_in}
+use Rattle.mr_folder.proofs.Names.{found_in, step_of, tree_of}
 use Rattle.mr_folder.proofs.MemoryNames.{look_step}
 use Rattle.mr_folder.proofs.memory.look_up.Goals as goal
 

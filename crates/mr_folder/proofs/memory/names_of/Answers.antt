@@ -1,8 +1,5 @@
 use Rattle.std.proofs.Common.{◌<◌, length, map, string_bytes, sym, ap, ◌∙◌, arith}
-use Rattle.std.specs.Option.{option_copied}
-use Rattle.std.proofs.lemmas.List.{length-map}
-use Rattle.mr_folder.specs.Memory.{step_of, tree_of}
-use Rattle.mr_folder.specs.inner.MemoryFound.{stored_name, target}
+use Rattle.mr_folder.proofs.Names.{length-map, option_copied, step_of, stored_name, target, tree_of}
 use Rattle.mr_folder.proofs.HeldLemmas.{one_more}
 use Rattle.mr_folder.proofs.MemoryNames.{target_at}
 use Rattle.mr_folder.proofs.memory.names_of.Goals as goal

@@ -1,7 +1,5 @@
 use Rattle.std.proofs.Common.{◌≡◌, take, map, string_bytes}
-use Rattle.std.specs.List.{filter_map}
-use Rattle.mr_folder.specs.Memory.{step_of, tree_of}
-use Rattle.mr_folder.specs.inner.MemoryFound.{stored_name, target}
+use Rattle.mr_folder.proofs.Names.{filter_map, step_of, stored_name, target, tree_of}
 use Rattle.mr_folder.proofs.memory.names_of.Given as goal
 
 abbrev pub invariant-loop-at : goal.invariant-loop-at

@@ -1,6 +1,5 @@
 use Rattle.std.proofs.Common.{◌≡◌, map, string_bytes, IfOk, slice_index_or, [], length, ◌≤◌, sym, ap, ◌∙◌, subst, arith}
-use Rattle.std.proofs.Math.ListN.{get_or-eq_default}
-use Rattle.mr_folder.specs.Quiet.{texts}
+use Rattle.mr_folder.proofs.Names.{get_or-eq_default, texts}
 use Rattle.mr_folder.proofs.QuietLemmas.{length-texts}
 use Rattle.mr_folder.proofs.MemoryFolderLemmas.{texts_at}
 use Rattle.mr_folder.proofs.memory_folders.names_in.Goals as goal

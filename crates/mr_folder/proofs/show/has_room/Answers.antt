@@ -1,6 +1,5 @@
 use Rattle.std.proofs.Common.{sym, ap, ◌∙◌}
-use Rattle.std.specs.Prelude.{is_some}
-use Rattle.std.proofs.lemmas.Bool.{false≢true}
+use Rattle.mr_folder.proofs.Names.{false≢true, is_some}
 use Rattle.mr_folder.proofs.ShowLemmas.{none_from, room_from, untouched_on}
 use Rattle.mr_folder.proofs.show.has_room.Goals as goal
 

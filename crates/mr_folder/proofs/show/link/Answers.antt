@@ -1,6 +1,5 @@
 use Rattle.std.proofs.Common.{◌↔◌, IsTrue, ap, ◌∙◌, subst}
-use Rattle.mr_folder.specs.Show.{HasRoom}
-use Rattle.mr_folder.specs.Tree.{MayLink}
+use Rattle.mr_folder.proofs.Names.{HasRoom, MayLink}
 use Rattle.mr_folder.proofs.Moments.{sound_untouched, sound_on}
 use Rattle.mr_folder.proofs.ShowLemmas.{link_none, link_keeps, sound_apart, no_step, no_crash, then_step, then_crash}
 use Rattle.mr_folder.proofs.show.link.Goals as goal

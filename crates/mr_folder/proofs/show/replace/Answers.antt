@@ -1,7 +1,5 @@
 use Rattle.std.proofs.Common.{◌↔◌, IsTrue, is_some, sym, ap, ◌∙◌, subst}
-use Rattle.std.proofs.lemmas.Bool.{false≢true}
-use Rattle.mr_folder.specs.Show.{HasRoom}
-use Rattle.mr_folder.specs.Tree.{MayMove}
+use Rattle.mr_folder.proofs.Names.{HasRoom, MayMove, false≢true}
 use Rattle.mr_folder.proofs.Moments.{sound_untouched, sound_on}
 use Rattle.mr_folder.proofs.ShowLemmas.{apart_of_room, move_none, move_keeps, sound_apart, no_step, no_crash, then_step, then_crash}
 use Rattle.mr_folder.proofs.show.replace.Goals as goal

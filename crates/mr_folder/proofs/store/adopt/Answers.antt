@@ -1,8 +1,5 @@
 use Rattle.std.proofs.Common.{◌≡◌, ℕ, List, Option, None, Some, sym, ap, ◌∙◌, subst}
-use Rattle.std.specs.Prelude.{option_map}
-use Rattle.sha2.specs.Sha256.{sha256}
-use Rattle.mr_folder.specs.Inside.{stored_path}
-use Rattle.mr_folder.specs.Tree.{MayLink, LeavesAfter}
+use Rattle.mr_folder.proofs.Names.{LeavesAfter, MayLink, option_map, sha256, stored_path}
 use Rattle.mr_folder.proofs.Moments.{sound_untouched, sound_on, after_untouched, untouched_then}
 use Rattle.mr_folder.proofs.ShowLemmas.{link_none, no_step, then_step}
 use Rattle.mr_folder.proofs.store.adopt.Goals as goal

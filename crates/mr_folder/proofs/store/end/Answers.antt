@@ -1,6 +1,5 @@
 use Rattle.std.proofs.Common.{◌≡◌, inl, refl, sym, ◌∙◌}
-use Rattle.std.proofs.lemmas.Slice.Eq.{bytes_eq-Decides}
-use Rattle.sha2.specs.Sha256.{sha256}
+use Rattle.mr_folder.proofs.Names.{bytes_eq-Decides, sha256}
 use Rattle.mr_folder.proofs.Moments.{sound_still, untouched_still}
 use Rattle.mr_folder.proofs.StoreSteps.{stored_still}
 use Rattle.mr_folder.proofs.store.end.Goals as goal

@@ -1,7 +1,5 @@
 use Rattle.std.proofs.Common.{◌≡◌, ◌<◌, ℕ, true, sym, ap, ◌∙◌, arith}
-use Rattle.std.specs.Prelude.{slice_index, is_some}
-use Rattle.mr_folder.specs.Inside.{stored_path}
-use Rattle.mr_folder.specs.Tree.{MayLink}
+use Rattle.mr_folder.proofs.Names.{MayLink, is_some, slice_index, stored_path}
 use Rattle.mr_folder.proofs.Moments.{sound_still, after_still}
 use Rattle.mr_folder.proofs.ShowLemmas.{link_none}
 use Rattle.mr_folder.proofs.StoreSteps.{link_at, link_after}

@@ -1,6 +1,5 @@
 use Rattle.std.proofs.Common.{◌≡◌, Some, sym, ap, ◌∙◌, subst}
-use Rattle.mr_folder.specs.Inside.{draft_path}
-use Rattle.mr_folder.specs.Tree.{MayMove, NoneOr}
+use Rattle.mr_folder.proofs.Names.{MayMove, NoneOr, draft_path}
 use Rattle.mr_folder.proofs.Moments.{sound_untouched, sound_on, after_untouched, after_call, untouched_then, then_untouched}
 use Rattle.mr_folder.proofs.StoreSteps.{sound_move, unmoved}
 use Rattle.mr_folder.proofs.ShowLemmas.{move_none}

@@ -1,6 +1,5 @@
 use Rattle.std.proofs.Common.{◌<◌, inl, ℕ, refl, sym, ap, ◌∙◌, subst, arith}
-use Rattle.std.specs.Prelude.{slice_index, is_some}
-use Rattle.mr_folder.specs.Tree.{HasSame}
+use Rattle.mr_folder.proofs.Names.{HasSame, is_some, slice_index}
 use Rattle.mr_folder.proofs.Moments.{sound_still}
 use Rattle.mr_folder.proofs.StoreSteps.{stored_still, stored_move, moved_place}
 use Rattle.mr_folder.proofs.TreeLemmas.{HasMail-there}

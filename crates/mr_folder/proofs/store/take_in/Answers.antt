@@ -1,8 +1,5 @@
 use Rattle.std.proofs.Common.{inl, sym, subst}
-use Rattle.sha2.specs.Sha256.{sha256}
-use Rattle.mr_folder.specs.Inside.{stored_path}
-use Rattle.mr_folder.specs.Store.{OnlyStored, SameOr}
-use Rattle.mr_folder.specs.Tree.{LeavesAfter}
+use Rattle.mr_folder.proofs.Names.{LeavesAfter, OnlyStored, SameOr, sha256, stored_path}
 use Rattle.mr_folder.proofs.Moments.{sound_on}
 use Rattle.mr_folder.proofs.StoreSteps.{draft_place, stored_draft, stored_on}
 use Rattle.mr_folder.proofs.TreeLemmas.{draft_apart}

@@ -1,7 +1,5 @@
 use Rattle.std.proofs.Common.{◌<◌, length, get_or, map, string_bytes, sym, ap, ◌∙◌, arith}
-use Rattle.std.proofs.Math.ListN.{get_or-map}
-use Rattle.std.proofs.lemmas.List.{length-map}
-use Rattle.mr_folder.specs.inner.Names.{digest_of}
+use Rattle.mr_folder.proofs.Names.{digest_of, get_or-map, length-map}
 use Rattle.mr_folder.proofs.HeldLemmas.{one_more}
 use Rattle.mr_folder.proofs.sweeping.digests_of.Goals as goal
 

@@ -1,6 +1,5 @@
 use Rattle.std.proofs.Common.{◌≡◌, take, map, string_bytes}
-use Rattle.std.specs.List.{filter_map}
-use Rattle.mr_folder.specs.inner.Names.{digest_of}
+use Rattle.mr_folder.proofs.Names.{digest_of, filter_map}
 use Rattle.mr_folder.proofs.sweeping.digests_of.Given as goal
 
 abbrev pub invariant-loop-name : goal.invariant-loop-name

@@ -1,8 +1,5 @@
 use Rattle.std.proofs.Common.{◌<◌, ℕ, None, sym, ◌∙◌, arith}
-use Rattle.std.specs.Prelude.{slice_index}
-use Rattle.std.proofs.lemmas.Bool.{false≢true}
-use Rattle.mr_folder.specs.Inside.{stored_path}
-use Rattle.mr_folder.specs.Sweep.{IsUnheld}
+use Rattle.mr_folder.proofs.Names.{IsUnheld, false≢true, slice_index, stored_path}
 use Rattle.mr_folder.proofs.StoreSteps.{at_path}
 use Rattle.mr_folder.proofs.SweepLemmas.{sweeps_still, sweeps_go}
 use Rattle.mr_folder.proofs.sweeping.let_go.Goals as goal

@@ -1,6 +1,5 @@
 use Rattle.std.proofs.Common.{◌≡◌, ◌<◌, ℕ, List, IsTrue, Contains, None, slice_index_or}
-use Rattle.mr_folder.specs.Inside.{stored_path}
-use Rattle.mr_folder.specs.Sweep.{SweepsOnly}
+use Rattle.mr_folder.proofs.Names.{SweepsOnly, stored_path}
 use Rattle.mr_folder.proofs.sweeping.let_go_all.Given as goal
 
 abbrev pub invariant-loop-digest : goal.invariant-loop-digest

@@ -1,6 +1,5 @@
 use Rattle.std.proofs.Common.{IsTrue, map, string_bytes}
-use Rattle.std.specs.Prelude.{is_some}
-use Rattle.mr_folder.specs.Inside.{stored_path}
+use Rattle.mr_folder.proofs.Names.{is_some, stored_path}
 use Rattle.mr_folder.proofs.HeldLemmas.{digests_tell}
 use Rattle.mr_folder.proofs.sweeping.stored.Goals as goal
 

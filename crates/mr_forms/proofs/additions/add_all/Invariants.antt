@@ -1,8 +1,5 @@
 use Rattle.std.proofs.Common.{◌≡◌, ◌||◌, take}
-use Rattle.std.specs.List.{list_any}
-use Rattle.std.specs.Ordering.{eq_by_cmp}
-use Rattle.std.specs.BTreeSet.{contains}
-use Rattle.mr_forms.specs.inner.Additions.{taken_back}
+use Rattle.mr_forms.proofs.Names.{contains, eq_by_cmp, list_any, taken_back}
 use Rattle.mr_forms.proofs.additions.add_all.Given as goal
 
 -- the keys so far are in, and those that were added lead back

@@ -1,6 +1,5 @@
 use Rattle.std.proofs.Common.{◌≡◌, ◌||◌, ◌∙◌, ap, sym, [], ◌∷◌, ◌++◌}
-use Rattle.mr_version.specs.Name.{Name, name_eq}
-use Rattle.mr_forms.specs.Sets.{is_listed}
+use Rattle.mr_forms.proofs.Names.{Name, is_listed, name_eq}
 use Rattle.mr_forms.proofs.PairLemmas.{filled_from_has, name_eq-itself}
 use Rattle.mr_forms.proofs.SetLemmas.{or_nothing}
 use Rattle.mr_forms.proofs.plain_knowledge.fragment_of.Goals as goal

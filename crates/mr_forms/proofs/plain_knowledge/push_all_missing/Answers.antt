@@ -1,7 +1,5 @@
 use Rattle.std.proofs.Common.{◌||◌, ◌&&◌, ◌∙◌, ap, sym, take}
-use Rattle.mr_version.specs.Name.{name_eq}
-use Rattle.mr_forms.specs.Sets.{is_listed}
-use Rattle.mr_forms.specs.PlainPair.{pair, has_pair}
+use Rattle.mr_forms.proofs.Names.{has_pair, is_listed, name_eq, pair}
 use Rattle.mr_forms.proofs.ListLemmas.{list_any-here}
 use Rattle.mr_forms.proofs.SetLemmas.{name_eq-symmetric}
 use Rattle.mr_forms.proofs.PairLemmas.{pair_eq-parts, one_more_listed}

@@ -1,7 +1,5 @@
 use Rattle.std.proofs.Common.{◌≡◌, ◌&&◌, ◌||◌, take}
-use Rattle.mr_version.specs.Name.{Name, name_eq}
-use Rattle.mr_forms.specs.Sets.{is_listed}
-use Rattle.mr_forms.specs.PlainPair.{pair, has_pair}
+use Rattle.mr_forms.proofs.Names.{Name, has_pair, is_listed, name_eq, pair}
 use Rattle.mr_forms.proofs.plain_knowledge.push_all_missing.Given as goal
 
 -- with what is known, the pairs up to here are all listed

@@ -1,6 +1,5 @@
 use Rattle.std.proofs.Common.{◌∙◌, [], ◌++◌, ap, sym, arith}
-use Rattle.std.proofs.lemmas.Bool.{false≢true}
-use Rattle.std.proofs.lemmas.List.{nil_from_length}
+use Rattle.mr_forms.proofs.Names.{false≢true, nil_from_length}
 use Rattle.mr_forms.proofs.ColumnLemmas.{gains_first, gains_in_last, gains_after_last}
 use Rattle.mr_forms.proofs.plain_versions.add_version.Goals.{in-Some+then-is_before, in-Some+else-is_before+in_ok-push, in_default}
 use Rattle.mr_forms.proofs.plain_versions.add_version.Goals as goal

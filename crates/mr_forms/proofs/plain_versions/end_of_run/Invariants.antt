@@ -1,6 +1,5 @@
 use Rattle.std.proofs.Common.{◌≡◌, ◌≤◌, ℕ, true}
-use Rattle.mr_forms.specs.Sets.{is_listed}
-use Rattle.mr_forms.specs.Runs.{of_author}
+use Rattle.mr_forms.proofs.Names.{is_listed, of_author}
 use Rattle.mr_forms.proofs.plain_versions.end_of_run.Given as goal
 
 -- the counters up to here are all in the set

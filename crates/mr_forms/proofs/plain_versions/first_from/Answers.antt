@@ -1,7 +1,5 @@
 use Rattle.std.proofs.Common.{sym, ◌∙◌}
-use Rattle.std.specs.Map.Iter.{deref}
-use Rattle.std.proofs.lemmas.Map.Iter.{rest_more, rest_all}
-use Rattle.mr_forms.specs.Sets.{is_listed}
+use Rattle.mr_forms.proofs.Names.{deref, is_listed, rest_all, rest_more}
 use Rattle.mr_forms.proofs.VersionLemmas.{from_start_at, no_run-after, first_from-after}
 use Rattle.mr_forms.proofs.plain_versions.first_from.Goals as goal
 

@@ -1,6 +1,5 @@
 use Rattle.std.proofs.Common.{◌≡◌, ◌||◌, ◌&&◌, ◌==◌, nat_le, nat_lt}
-use Rattle.mr_version.specs.Name.{Name}
-use Rattle.mr_forms.specs.Sets.{is_listed}
+use Rattle.mr_forms.proofs.Names.{Name, is_listed}
 use Rattle.mr_forms.proofs.versions.push_run.Given as goal
 
 -- the run up to here is listed

@@ -1,7 +1,5 @@
 use Rattle.std.proofs.Common.{◌||◌, ◌∙◌, ap, sym, take_all}
-use Rattle.std.proofs.lemmas.Bool.{false≢true}
-use Rattle.mr_forms.specs.Sets.{is_listed}
-use Rattle.mr_forms.specs.Runs.{in_run, in_runs}
+use Rattle.mr_forms.proofs.Names.{false≢true, in_run, in_runs, is_listed}
 use Rattle.mr_forms.proofs.ListLemmas.{list_any-here}
 use Rattle.mr_forms.proofs.versions.versions_in.Goals as goal
 

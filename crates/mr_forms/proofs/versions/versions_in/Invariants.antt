@@ -1,6 +1,5 @@
 use Rattle.std.proofs.Common.{take}
-use Rattle.mr_forms.specs.Sets.{IsSame, is_listed}
-use Rattle.mr_forms.specs.Runs.{in_runs, HasVersionsAlone}
+use Rattle.mr_forms.proofs.Names.{HasVersionsAlone, IsSame, in_runs, is_listed}
 use Rattle.mr_forms.proofs.versions.versions_in.Given as goal
 
 -- the runs up to here are listed, and nothing but versions

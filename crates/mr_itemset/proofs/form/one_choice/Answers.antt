@@ -1,6 +1,5 @@
 use Rattle.std.proofs.Common.{◌≡◌, ap}
-use Rattle.mr_itemset.specs.Normal.{Normal}
-use Rattle.mr_itemset.specs.Sparing.{sparing_form}
+use Rattle.mr_itemset.proofs.Names.{Normal, sparing_form}
 use Rattle.mr_itemset.proofs.form.one_choice.Goals as goal
 
 pub returns-clause-one : goal.returns-clause-one

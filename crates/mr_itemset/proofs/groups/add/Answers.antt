@@ -1,7 +1,5 @@
 use Rattle.std.proofs.Common.{rules, refl, ap, sym, ◌∙◌, ◌≡◌, length, [], ◌∷◌, ◌++◌}
-use Rattle.mr_itemset.specs.Groups.{Alike, alone}
-use Rattle.mr_itemset.specs.inner.Groups.{TakesAt}
-use Rattle.mr_forms.specs.declared.fragment.TheConstants.{MAX_ITEMS}
+use Rattle.mr_itemset.proofs.Names.{Alike, MAX_ITEMS, TakesAt, alone}
 use Rattle.mr_itemset.proofs.GroupLemmas.{fill_grouped, grouped_last, grouped_there, noted_joined, noted_alone}
 use Rattle.mr_itemset.proofs.groups.add.Goals as goal
 

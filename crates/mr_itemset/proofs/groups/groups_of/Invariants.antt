@@ -1,8 +1,5 @@
 use Rattle.std.proofs.Common.{◌≡◌, []}
-use Rattle.mr_forms.specs.declared.fragment.TheConstants.{MAX_ITEMS}
-use Rattle.mr_itemset.specs.inner.Entries.{listed_of}
-use Rattle.mr_itemset.specs.Groups.{all_grouped}
-use Rattle.mr_itemset.specs.inner.Grouping.{IsGrouping}
+use Rattle.mr_itemset.proofs.Names.{IsGrouping, MAX_ITEMS, all_grouped, listed_of}
 use Rattle.mr_itemset.proofs.groups.groups_of.Given as goal
 
 -- with what is left grouped too, the groups are those of all

@@ -1,6 +1,5 @@
 use Rattle.std.proofs.Common.{List, ap, ◌∙◌}
-use Rattle.std.specs.List.{slice_get}
-use Rattle.mr_concise.specs.declared.vector.AuthorColumn.{AuthorColumn}
+use Rattle.mr_itemset.proofs.Names.{AuthorColumn, slice_get}
 use Rattle.mr_itemset.proofs.GroupLemmas.{mark_first, mark_none}
 use Rattle.mr_itemset.proofs.groups.mark_of.Goals as goal
 

@@ -1,8 +1,6 @@
 use Rattle.std.proofs.Common.{sym, ◌∙◌, inl, inr}
-use Rattle.std.proofs.lemmas.Bool.{false_from_ne_true}
+use Rattle.mr_itemset.proofs.Names.{false_from_ne_true, vector_eq, vectors_Decides}
 use Rattle.mr_concise.specs.Order.{vectors_tied}
-use Rattle.mr_concise.specs.Equal.{vector_eq}
-use Rattle.mr_concise.proofs.EqualLemmas.{vectors_Decides}
 use Rattle.mr_itemset.proofs.groups.note.Goals as goal
 
 pub returns-clause-kept : goal.returns-clause-kept

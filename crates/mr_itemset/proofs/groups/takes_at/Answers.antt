@@ -1,7 +1,5 @@
 use Rattle.std.proofs.Common.{ap, sym, ◌∙◌}
-use Rattle.std.proofs.lemmas.List.{get_or_default}
-use Rattle.mr_forms.specs.declared.fragment.TheConstants.{MAX_ITEMS}
-use Rattle.mr_itemset.specs.Groups.{Alike, takes}
+use Rattle.mr_itemset.proofs.Names.{Alike, MAX_ITEMS, get_or_default, takes}
 use Rattle.mr_itemset.proofs.groups.takes_at.Goals as goal
 
 pub returns-then-at-groups : goal.returns-then-at-groups

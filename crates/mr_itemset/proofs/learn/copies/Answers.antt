@@ -1,8 +1,5 @@
 use Rattle.std.proofs.Common.{List, [], ◌∷◌, ◌++◌, map, ap, sym, ◌∙◌}
-use Rattle.mr_concise.specs.declared.vector.AuthorColumn.{AuthorColumn}
-use Rattle.mr_itemset.specs.declared.knowledge.Listed.{Listed}
-use Rattle.mr_itemset.specs.inner.Entries.{listed_as, listed_of}
-use Rattle.mr_itemset.specs.inner.Placed.{placed}
+use Rattle.mr_itemset.proofs.Names.{AuthorColumn, Listed, listed_as, listed_of, placed}
 use Rattle.mr_itemset.proofs.EntryLemmas.{placed-last}
 use Rattle.mr_itemset.proofs.WalkLemmas.{lent, items_next, items_more, items_all, lower_before}
 use Rattle.mr_itemset.proofs.learn.copies.Goals as goal

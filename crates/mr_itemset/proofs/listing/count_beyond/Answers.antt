@@ -1,7 +1,5 @@
 use Rattle.std.proofs.Common.{◌≡◌, ◌≤◌, eqb-true, length, sym, ap, ◌∙◌, arith}
-use Rattle.std.specs.Map.Iter.{deref}
-use Rattle.std.proofs.lemmas.Map.Iter.{rest_more, rest_all}
-use Rattle.mr_itemset.specs.Folded.{united}
+use Rattle.mr_itemset.proofs.Names.{deref, rest_all, rest_more, united}
 use Rattle.mr_itemset.proofs.CountLemmas.{gained_count, gained_few, counted_one, counted_none}
 use Rattle.mr_itemset.proofs.EntryLemmas.{listed_of-length}
 use Rattle.mr_itemset.proofs.MergingLemmas.{all_listed}

@@ -1,9 +1,6 @@
 use Rattle.std.proofs.Common.{◌≡◌, ◌≤◌, length, take, ap, ◌∙◌, arith}
-use Rattle.std.proofs.Math.Seq.{take-length}
-use Rattle.std.proofs.lemmas.List.Elements.{All-more}
-use Rattle.mr_concise.specs.declared.column.TheConstants.{MAX_HOLES}
+use Rattle.mr_itemset.proofs.Names.{All-more, IsColumn, MAX_HOLES, take-length}
 use Rattle.mr_itemset.proofs.KeptLemmas.{holes_all, more_holes, columns_at}
-use Rattle.mr_concise.specs.Column.{IsColumn}
 use Rattle.mr_itemset.proofs.pending.most_holes.Goals as goal
 
 pub loop-x-preserved : goal.loop-x-preserved

@@ -1,7 +1,5 @@
 use Rattle.std.proofs.Common.{◌<◌, ◌-◌, get_or, length, arith}
-use Rattle.std.proofs.lemmas.Bool.{ltb-true}
-use Rattle.std.proofs.lemmas.List.{get_or_default}
-use Rattle.mr_concise.specs.declared.column.Hole.{Hole}
+use Rattle.mr_itemset.proofs.Names.{Hole, get_or_default, ltb-true}
 use Rattle.mr_itemset.proofs.told.last_begun.Goals as goal
 
 pub returns-then-begun-gt0 : goal.returns-then-begun-gt0

@@ -1,6 +1,5 @@
 use Rattle.std.proofs.Common.{◌≡◌, ◌≢◌, ℕ, List, take, drop, refl, sym, ◌∙◌, ap, arith, length-drop}
-use Rattle.std.proofs.lemmas.List.{drop-drop}
-use Rattle.sha2.specs.Sha256.{sha256}
+use Rattle.mr_journal.proofs.Names.{drop-drop, sha256}
 use Rattle.mr_journal.proofs.ReadLemmas.{found_framed, nothing_other, nothing_short, tested_other, tested_same}
 use Rattle.mr_journal.proofs.read.body_at.Goals as goal
 

@@ -1,7 +1,5 @@
 use Rattle.std.proofs.Common.{◌+◌, ℕ, List, Ok, Err, length, refl, sym, ◌∙◌, ap, subst, arith}
-use Rattle.std.proofs.lemmas.Result.{err_from_is_err_and}
-use Rattle.mr_journal.specs.Format.{AreBatches, contents, head}
-use Rattle.mr_journal.specs.inner.Reading.{IsFound, IsSplit}
+use Rattle.mr_journal.proofs.Names.{AreBatches, IsFound, IsSplit, contents, err_from_is_err_and, head}
 use Rattle.mr_journal.proofs.Moments.{untouched_none, untouched_on}
 use Rattle.mr_journal.proofs.ReadLemmas.{ReadTo, damaged_body, found_there, none_yet, read_one, reason_found}
 use Rattle.mr_journal.proofs.read.read_batches.Goals as goal

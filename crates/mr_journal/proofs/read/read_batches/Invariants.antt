@@ -1,6 +1,5 @@
 use Rattle.std.proofs.Common.{◌≡◌, ◌-◌, ◌++◌, IsTrue, List, ℕ, length}
-use Rattle.mr_journal.specs.Device.{IsUntouched}
-use Rattle.mr_journal.specs.Format.{contents, head}
+use Rattle.mr_journal.proofs.Names.{IsUntouched, contents, head}
 use Rattle.mr_journal.proofs.ReadLemmas.{ReadTo}
 use Rattle.mr_journal.proofs.read.read_batches.Given as goal
 

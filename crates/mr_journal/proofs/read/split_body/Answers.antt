@@ -1,7 +1,5 @@
 use Rattle.std.proofs.Common.{◌≡◌, ◌<◌, ◌^◌, ◌++◌, ◌∷◌, [], ℕ, List, length, ap, ◌∙◌, arith, rules, append_assoc}
-use Rattle.std.proofs.lemmas.Bool.Decides.{nat_tests}
-use Rattle.std.proofs.lemmas.List.{map-append}
-use Rattle.mr_journal.specs.Format.{contents}
+use Rattle.mr_journal.proofs.Names.{contents, map-append, nat_tests}
 use Rattle.mr_journal.proofs.BatchLemmas.{all_push}
 use Rattle.mr_journal.proofs.ReadLemmas.{body_behind, body_begins, split_one}
 use Rattle.mr_journal.proofs.read.split_body.Goals as goal

@@ -1,8 +1,5 @@
 use Rattle.std.proofs.Common.{◌≡◌, ℕ, List, min, length, take, sym, ◌∙◌, ap}
-use Rattle.std.proofs.lemmas.Result.{err_from_is_err_and}
-use Rattle.std.proofs.lemmas.Bool.{false≢true}
-use Rattle.std.proofs.lemmas.List.{take_min}
-use Rattle.mr_journal.specs.Format.{IsNew}
+use Rattle.mr_journal.proofs.Names.{IsNew, err_from_is_err_and, false≢true, take_min}
 use Rattle.mr_journal.proofs.RestoreLemmas.{reason_head}
 use Rattle.mr_journal.proofs.restore.examine.Goals as goal
 

@@ -1,7 +1,5 @@
 use Rattle.std.proofs.Common.{◌≡◌, inl, inr, [], List, ℕ, Ok, ◌+◌, refl, sym, ap, subst, arith}
-use Rattle.mr_journal.specs.Device.{Rests}
-use Rattle.mr_journal.specs.Format.{AreBatches, Stands, contents, head}
-use Rattle.mr_journal.specs.inner.Reading.{IsExamined}
+use Rattle.mr_journal.proofs.Names.{AreBatches, IsExamined, Rests, Stands, contents, head}
 use Rattle.mr_journal.proofs.ReadLemmas.{none_yet}
 use Rattle.mr_journal.proofs.RestoreLemmas.{cut_done, cut_leaves, rests_still}
 use Rattle.mr_journal.proofs.restore.restore.Goals as goal

@@ -1,6 +1,5 @@
 use Rattle.std.proofs.Common.{◌≡◌, ◌⊎◌, inl, ℕ, ◌+◌, ◌++◌, ◌∷◌, [], List, length, OnOk, sym, subst, arith, length-append}
-use Rattle.mr_journal.specs.Device.{Rests}
-use Rattle.mr_journal.specs.inner.Device.{IsStaged}
+use Rattle.mr_journal.proofs.Names.{IsStaged, Rests}
 use Rattle.mr_journal.proofs.Crashes.{staged, staged_written, gate, gate_written}
 use Rattle.mr_journal.proofs.Moments.{widened, joined}
 use Rattle.mr_journal.proofs.steps.publish.Goals as goal

@@ -1,6 +1,5 @@
 use Rattle.std.proofs.Common.{◌≡◌, take}
-use Rattle.std.specs.Prelude.{filter}
-use Rattle.mr_lookup.specs.Ancestors.{is_common}
+use Rattle.mr_lookup.proofs.Names.{filter, is_common}
 use Rattle.mr_lookup.proofs.ancestors.common_ancestors.Given as goal
 
 abbrev pub invariant-loop-revision : goal.invariant-loop-revision

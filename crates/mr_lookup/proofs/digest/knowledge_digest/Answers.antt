@@ -1,6 +1,5 @@
 use Rattle.std.proofs.Common.{◌∙◌, List, ap}
-use Rattle.sha2.specs.Sha256.{sha256}
-use Rattle.mr_concise.specs.Fragments.{ConciseFragment, knowledge_text}
+use Rattle.mr_lookup.proofs.Names.{ConciseFragment, knowledge_text, sha256}
 use Rattle.mr_lookup.proofs.DigestLemmas.{digest_of}
 use Rattle.mr_lookup.proofs.digest.knowledge_digest.Goals as goal
 

@@ -1,8 +1,5 @@
 use Rattle.std.proofs.Common.{◌+◌, ℕ, Option, subst, sym, take}
-use Rattle.mr_forms.specs.Covered.{HasItems, all_covered}
-use Rattle.mr_concise.specs.Fragments.{ConciseFragment}
-use Rattle.mr_concise.specs.Vector.{vector_has}
-use Rattle.mr_lookup.specs.Highest.{IsHighestFound}
+use Rattle.mr_lookup.proofs.Names.{ConciseFragment, HasItems, IsHighestFound, all_covered, vector_has}
 use Rattle.mr_lookup.proofs.HighestLemmas.{found_more}
 use Rattle.mr_lookup.proofs.highest.highest_in.Goals as goal
 

@@ -1,7 +1,5 @@
 use Rattle.std.proofs.Common.{take}
-use Rattle.mr_forms.specs.Covered.{all_covered}
-use Rattle.mr_concise.specs.Vector.{vector_has}
-use Rattle.mr_lookup.specs.Highest.{IsHighestFound}
+use Rattle.mr_lookup.proofs.Names.{IsHighestFound, all_covered, vector_has}
 use Rattle.mr_lookup.proofs.highest.highest_in.Given as goal
 
 abbrev pub invariant-loop-fragment : goal.invariant-loop-fragment

@@ -1,6 +1,5 @@
 use Rattle.std.proofs.Common.{ℕ, List, IfOk, subst}
-use Rattle.mr_replica.specs.declared.event.Event.{Event}
-use Rattle.mr_lookup.specs.History.{IsHistory}
+use Rattle.mr_lookup.proofs.Names.{Event, IsHistory}
 use Rattle.mr_lookup.proofs.past.history.Goals as goal
 
 pub returns : goal.returns

@@ -1,8 +1,5 @@
 use Rattle.std.proofs.Common.{List, [], refl, ap, subst, sym, ◌∙◌, arith}
-use Rattle.std.proofs.lemmas.List.{take_all}
-use Rattle.mr_replica.specs.declared.event.Event.{Event}
-use Rattle.mr_lookup.specs.History.{IsHistory}
-use Rattle.mr_lookup.specs.inner.History.{told_more}
+use Rattle.mr_lookup.proofs.Names.{Event, IsHistory, take_all, told_more}
 use Rattle.mr_lookup.proofs.HistoryLemmas.{history-more, none_yet}
 use Rattle.mr_lookup.proofs.ToldLemmas.{issued-more, issued_one}
 use Rattle.mr_lookup.proofs.past.history_in.Goals as goal

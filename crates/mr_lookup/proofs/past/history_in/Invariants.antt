@@ -1,6 +1,5 @@
 use Rattle.std.proofs.Common.{◌≡◌, ◌≤◌, fold, take}
-use Rattle.mr_lookup.specs.Told.{issued_with}
-use Rattle.mr_lookup.specs.History.{IsHistory}
+use Rattle.mr_lookup.proofs.Names.{IsHistory, issued_with}
 use Rattle.mr_lookup.proofs.past.history_in.Given as goal
 
 -- how many versions the events so far issued, and what they tell of the item

@@ -1,6 +1,5 @@
 use Rattle.std.proofs.Common.{[], ◌∷◌, ap, ◌∙◌}
-use Rattle.mr_lookup.specs.Told.{is_among, message_at}
-use Rattle.mr_lookup.specs.inner.Told.{told_with}
+use Rattle.mr_lookup.proofs.Names.{is_among, message_at, told_with}
 use Rattle.mr_lookup.proofs.ToldLemmas.{not_named}
 use Rattle.mr_lookup.proofs.told.note_created.Goals as goal
 

@@ -1,6 +1,5 @@
 use Rattle.std.proofs.Common.{◌≡◌, ◌≤◌, take}
-use Rattle.std.specs.List.{fold}
-use Rattle.mr_lookup.specs.Told.{HasFirstTold, is_among, issued_with}
+use Rattle.mr_lookup.proofs.Names.{HasFirstTold, fold, is_among, issued_with}
 use Rattle.mr_lookup.proofs.told.told_in_log.Given as goal
 
 -- what the events so far tell, and how many versions they issued

@@ -1,6 +1,5 @@
 use Rattle.std.proofs.Common.{◌≡◌, ◌≤◌, drop}
-use Rattle.mr_lookup.specs.Told.{message_at}
-use Rattle.mr_lookup.specs.Versions.{versions_after, versions_told}
+use Rattle.mr_lookup.proofs.Names.{message_at, versions_after, versions_told}
 use Rattle.mr_lookup.proofs.versions.first_message.Given as goal
 
 -- what is left tells the version as the whole log does

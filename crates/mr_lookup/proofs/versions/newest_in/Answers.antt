@@ -1,7 +1,5 @@
 use Rattle.std.proofs.Common.{List, sym, ◌∙◌}
-use Rattle.std.proofs.lemmas.List.{at_drop_all}
-use Rattle.mr_replica.specs.declared.event.Event.{Event}
-use Rattle.mr_lookup.specs.Versions.{versions_after, versions_told}
+use Rattle.mr_lookup.proofs.Names.{Event, at_drop_all, versions_after, versions_told}
 use Rattle.mr_lookup.proofs.VersionLemmas.{found, newest_of}
 use Rattle.mr_lookup.proofs.versions.newest_in.Goals as goal
 

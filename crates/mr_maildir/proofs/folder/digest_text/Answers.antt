@@ -1,6 +1,5 @@
 use Rattle.std.proofs.Common.{◌≡◌, ◌<◌, ◌++◌, ℕ, string_bytes, codes, take, rules, arith}
-use Rattle.std.specs.Prelude.{slice_index}
-use Rattle.hex.specs.Hex.{encode_lower}
+use Rattle.mr_maildir.proofs.Names.{encode_lower, slice_index}
 use Rattle.mr_maildir.proofs.FolderLemmas.{digits_are_label}
 use Rattle.mr_maildir.proofs.folder.digest_text.Goals as goal
 

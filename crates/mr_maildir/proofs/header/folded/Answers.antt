@@ -1,8 +1,5 @@
 use Rattle.std.proofs.Common.{ℕ, List, Bool, not, length, refl, ◌∙◌, rules, tests}
-use Rattle.std.specs.Borrow.{Bor}
-use Rattle.std.proofs.lemmas.Iterator.{YieldsList-from_slice}
-use Rattle.std.proofs.lemmas.Iterator.Search.{position_from_yields_List}
-use Rattle.mr_maildir.specs.Header.{is_folded}
+use Rattle.mr_maildir.proofs.Names.{Bor, YieldsList-from_slice, is_folded, position_from_yields_List}
 use Rattle.mr_maildir.proofs.HeaderLemmas.{at_place, no_place, twice_not}
 use Rattle.mr_maildir.proofs.header.folded.Goals as goal
 

@@ -1,9 +1,5 @@
 use Rattle.std.proofs.Common.{ℕ, List, not, rules, tests}
-use Rattle.std.specs.Prelude.{◌==◌}
-use Rattle.std.proofs.lemmas.Iterator.Consumers.{map_from_collect, YieldsList-at}
-use Rattle.std.proofs.lemmas.Iterator.Search.{YieldsList-from_take_while}
-use Rattle.std.proofs.lemmas.Iterator.Splits.{YieldsList-from_slice_split}
-use Rattle.mr_maildir.specs.Header.{is_end}
+use Rattle.mr_maildir.proofs.Names.{YieldsList-at, YieldsList-from_slice_split, YieldsList-from_take_while, is_end, map_from_collect, ◌==◌}
 use Rattle.mr_maildir.proofs.header.header_lines.Goals as goal
 
 pub returns : goal.returns

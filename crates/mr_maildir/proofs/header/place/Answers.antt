@@ -1,8 +1,5 @@
 use Rattle.std.proofs.Common.{ℕ, List, Bool, length, refl, rules, tests}
-use Rattle.std.specs.Borrow.{Bor}
-use Rattle.std.proofs.lemmas.Iterator.{YieldsList-from_slice}
-use Rattle.std.proofs.lemmas.Iterator.Search.{position_from_yields_List}
-use Rattle.mr_maildir.specs.Header.{begins}
+use Rattle.mr_maildir.proofs.Names.{Bor, YieldsList-from_slice, begins, position_from_yields_List}
 use Rattle.mr_maildir.proofs.HeaderLemmas.{at_place, no_place}
 use Rattle.mr_maildir.proofs.header.place.Goals as goal
 

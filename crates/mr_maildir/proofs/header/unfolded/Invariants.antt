@@ -1,6 +1,5 @@
 use Rattle.std.proofs.Common.{◌≡◌, take}
-use Rattle.std.specs.List.{flat_map}
-use Rattle.mr_maildir.specs.Header.{without_return}
+use Rattle.mr_maildir.proofs.Names.{flat_map, without_return}
 use Rattle.mr_maildir.proofs.header.unfolded.Given as goal
 
 abbrev pub invariant-loop-line : goal.invariant-loop-line

@@ -1,8 +1,5 @@
 use Rattle.std.proofs.Common.{ℕ, List, length, drop, ap, ◌∙◌}
-use Rattle.std.specs.Borrow.{Bor}
-use Rattle.std.specs.List.{flat_map}
-use Rattle.std.proofs.lemmas.Result.{IfOk-weaker}
-use Rattle.mr_maildir.specs.Header.{is_folded, without_return, first_group}
+use Rattle.mr_maildir.proofs.Names.{Bor, IfOk-weaker, first_group, flat_map, is_folded, without_return}
 use Rattle.mr_maildir.proofs.HeaderLemmas.{value_now}
 use Rattle.mr_maildir.proofs.header.value.Goals as goal
 

@@ -1,7 +1,5 @@
 use Rattle.std.proofs.Common.{lit<, rules, tests}
-use Rattle.std.proofs.lemmas.Iterator.Search.{all_from_yields_List}
-use Rattle.std.proofs.lemmas.Iterator.Splits.{YieldsList-from_str_split}
-use Rattle.mr_maildir.specs.Layout.{is_read_level}
+use Rattle.mr_maildir.proofs.Names.{YieldsList-from_str_split, all_from_yields_List, is_read_level}
 use Rattle.mr_maildir.proofs.layout.are_read_levels.Goals as goal
 
 pub returns : goal.returns

@@ -1,7 +1,5 @@
 use Rattle.std.proofs.Common.{sym, ap, ◌∙◌}
-use Rattle.std.proofs.lemmas.Result.{IfOk-weaker}
-use Rattle.mr_mail.specs.Label.{is_label}
-use Rattle.mr_maildir.specs.Layout.{admits}
+use Rattle.mr_maildir.proofs.Names.{IfOk-weaker, admits, is_label}
 use Rattle.mr_maildir.proofs.LayoutLemmas.{label_of-admitted}
 use Rattle.mr_maildir.proofs.layout.label_name.Goals as goal
 

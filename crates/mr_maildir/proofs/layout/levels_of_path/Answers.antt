@@ -1,6 +1,5 @@
 use Rattle.std.proofs.Common.{lit<}
-use Rattle.std.proofs.lemmas.Iterator.Consumers.{map_from_collect}
-use Rattle.std.proofs.lemmas.Iterator.Splits.{YieldsList-from_str_split}
+use Rattle.mr_maildir.proofs.Names.{YieldsList-from_str_split, map_from_collect}
 use Rattle.mr_maildir.proofs.layout.levels_of_path.Goals as goal
 
 pub returns : goal.returns

@@ -1,6 +1,5 @@
 use Rattle.std.proofs.Common.{[], ◌∷◌, ap, ◌∙◌}
-use Rattle.std.specs.List.{join_by, join_with_byte}
-use Rattle.std.proofs.lemmas.Result.{IfOk-weaker}
+use Rattle.mr_maildir.proofs.Names.{IfOk-weaker, join_by, join_with_byte}
 use Rattle.mr_maildir.proofs.LayoutLemmas.{joined}
 use Rattle.mr_maildir.proofs.layout.with_dots.Goals as goal
 

@@ -1,7 +1,5 @@
 use Rattle.std.proofs.Common.{◌≡◌, ◌-◌, string_bytes}
-use Rattle.std.specs.Prelude.{filter}
-use Rattle.std.specs.List.{range_with_len}
-use Rattle.mr_maildir.specs.Letters.{stays_on}
+use Rattle.mr_maildir.proofs.Names.{filter, range_with_len, stays_on}
 use Rattle.mr_maildir.proofs.letters.staying_letters.Given as goal
 
 abbrev pub invariant-loop-byte : goal.invariant-loop-byte

@@ -1,8 +1,6 @@
 use Rattle.std.proofs.Common.{◌++◌, ◌∷◌, [], ap, ◌∙◌, string_bytes}
-use Rattle.std.specs.List.{join_with_byte}
+use Rattle.mr_maildir.proofs.Names.{join_with_byte, letters_with, printed}
 use Rattle.mr_version.specs.Name.{name_text}
-use Rattle.mr_maildir.specs.Letters.{letters_with}
-use Rattle.mr_maildir.specs.Listing.{printed}
 use Rattle.mr_maildir.proofs.ListingLemmas.{line_made}
 use Rattle.mr_maildir.proofs.listing.line_with.Goals as goal
 

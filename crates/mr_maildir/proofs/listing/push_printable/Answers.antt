@@ -1,8 +1,5 @@
 use Rattle.std.proofs.Common.{◌++◌, flat_map, sym, ap, ◌∙◌, map-id, string_bytes}
-use Rattle.std.proofs.lemmas.Iterator.{YieldsList-from_chars}
-use Rattle.std.proofs.lemmas.Iterator.Consumers.{YieldsList-end}
-use Rattle.std.specs.Str.{chars, encode_utf8_all}
-use Rattle.mr_maildir.specs.Listing.{printed_char}
+use Rattle.mr_maildir.proofs.Names.{YieldsList-end, YieldsList-from_chars, chars, encode_utf8_all, printed_char}
 use Rattle.mr_maildir.proofs.ListingLemmas.{printed-flat}
 use Rattle.mr_maildir.proofs.listing.push_printable.Goals as goal
 

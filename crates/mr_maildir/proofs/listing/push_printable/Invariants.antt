@@ -1,6 +1,5 @@
 use Rattle.std.proofs.Common.{◌≡◌, ◌++◌, flat_map, string_bytes}
-use Rattle.std.specs.Str.{encode_utf8_all}
-use Rattle.mr_maildir.specs.Listing.{printed_char}
+use Rattle.mr_maildir.proofs.Names.{encode_utf8_all, printed_char}
 use Rattle.mr_maildir.proofs.listing.push_printable.Given as goal
 
 abbrev pub invariant-loop-character : goal.invariant-loop-character

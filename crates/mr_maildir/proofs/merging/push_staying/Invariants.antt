@@ -1,6 +1,5 @@
 use Rattle.std.proofs.Common.{◌≡◌, ◌++◌, take}
-use Rattle.std.specs.Prelude.{filter}
-use Rattle.mr_maildir.specs.Merging.{with_say, stays_in}
+use Rattle.mr_maildir.proofs.Names.{filter, stays_in, with_say}
 use Rattle.mr_maildir.proofs.merging.push_staying.Given as goal
 
 abbrev pub invariant-loop-label : goal.invariant-loop-label

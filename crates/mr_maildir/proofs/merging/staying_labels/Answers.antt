@@ -1,6 +1,5 @@
 use Rattle.std.proofs.Common.{◌<◌, ◌||◌, not, ℕ, Bool, List, length, arith}
-use Rattle.mr_maildir.specs.View.{ViewParts, is_gone}
-use Rattle.mr_maildir.specs.Merging.{with_say, stays_in}
+use Rattle.mr_maildir.proofs.Names.{ViewParts, is_gone, stays_in, with_say}
 use Rattle.mr_maildir.proofs.MergingLemmas.{one_more_head}
 use Rattle.mr_maildir.proofs.merging.staying_labels.Goals as goal
 

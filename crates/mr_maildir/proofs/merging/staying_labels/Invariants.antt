@@ -1,7 +1,5 @@
 use Rattle.std.proofs.Common.{◌≡◌, take}
-use Rattle.std.specs.Prelude.{filter}
-use Rattle.std.specs.List.{flat_map}
-use Rattle.mr_maildir.specs.Merging.{with_say, stays_in}
+use Rattle.mr_maildir.proofs.Names.{filter, flat_map, stays_in, with_say}
 use Rattle.mr_maildir.proofs.merging.staying_labels.Given as goal
 
 abbrev pub invariant-loop-head : goal.invariant-loop-head

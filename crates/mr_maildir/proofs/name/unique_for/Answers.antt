@@ -1,6 +1,5 @@
 use Rattle.std.proofs.Common.{◌≡◌, ◌<◌, ℕ, false, sym, ◌∙◌, arith}
-use Rattle.std.specs.Prelude.{slice_index}
-use Rattle.mr_maildir.specs.Name.{is_safe_name}
+use Rattle.mr_maildir.proofs.Names.{is_safe_name, slice_index}
 use Rattle.mr_maildir.proofs.PathLemmas.{digits_are_part, digits_lack_colon}
 use Rattle.mr_maildir.proofs.name.unique_for.Goals as goal
 

@@ -1,5 +1,4 @@
-use Rattle.std.proofs.lemmas.Result.{on_ok_weaker}
-use Rattle.mr_maildir.specs.FileActs.{mail_of}
+use Rattle.mr_maildir.proofs.Names.{mail_of, on_ok_weaker}
 use Rattle.mr_maildir.proofs.MomentLemmas.{put-named}
 use Rattle.mr_maildir.proofs.plan.acts_of.Goals as goal
 

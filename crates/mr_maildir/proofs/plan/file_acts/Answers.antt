@@ -1,5 +1,4 @@
-use Rattle.std.proofs.lemmas.Result.{on_ok_weaker}
-use Rattle.mr_maildir.specs.FileActs.{mail_of}
+use Rattle.mr_maildir.proofs.Names.{mail_of, on_ok_weaker}
 use Rattle.mr_maildir.proofs.PlanLemmas.{acts_leave, standing-tell, stays_untouched}
 use Rattle.mr_maildir.proofs.MomentLemmas.{always_some, nothing_overwritten}
 use Rattle.mr_maildir.proofs.plan.file_acts.Goals as goal

@@ -1,9 +1,6 @@
 use Rattle.std.proofs.Common.{◌≡◌, true, sym, ap, ◌∙◌}
 use Rattle.std.specs.Result.{result_ok}
-use Rattle.std.proofs.lemmas.Bool.{false≢true}
-use Rattle.hex.specs.Hex.{encode_lower, decode_sized}
-use Rattle.hex.proofs.HexLemmas.{decode_sized-encode_lower}
-use Rattle.mr_mail.specs.Label.{text_eq}
+use Rattle.mr_maildir.proofs.Names.{decode_sized, decode_sized-encode_lower, encode_lower, false≢true, text_eq}
 use Rattle.mr_maildir.proofs.ReferenceLemmas.{same_digits}
 use Rattle.mr_maildir.proofs.reference.read_digest.Goals as goal
 

@@ -1,6 +1,5 @@
 use Rattle.std.proofs.Common.{◌≡◌, length}
-use Rattle.std.specs.Str.{IsUtf8}
-use Rattle.mr_maildir.specs.Told.{told_by}
+use Rattle.mr_maildir.proofs.Names.{IsUtf8, told_by}
 use Rattle.mr_maildir.proofs.told.told.Given as goal
 
 abbrev pub invariant-loop-line : goal.invariant-loop-line

@@ -1,6 +1,5 @@
 use Rattle.std.proofs.Common.{◌≡◌, ◌<◌, length, inl, inr, arith}
-use Rattle.std.proofs.lemmas.Bool.{cases_lt}
-use Rattle.std.proofs.lemmas.List.{get_or_read}
+use Rattle.mr_maildir.proofs.Names.{cases_lt, get_or_read}
 use Rattle.mr_maildir.proofs.view.tell_labels.Goals as goal
 
 pub loop-label-preserved : goal.loop-label-preserved

@@ -1,11 +1,6 @@
 use Rattle.std.proofs.Common.{refl, sym, subst, ℕ, ◌<◌, [], inl, inr, arith}
-use Rattle.mr_model.specs.History.{Ask, Body.End}
-use Rattle.mr_model.specs.Moment.{Selects}
-use Rattle.mr_model.specs.Changes.{now}
-use Rattle.mr_model.specs.Rules.{Covers}
-use Rattle.mr_model.specs.Rows.{archive, row_setting, ◌•◌}
-use Rattle.mr_model.specs.SyncRows.{first_sync, passed_on}
-use Rattle.mr_model.specs.RefusedRows.{two_entries, closed_port, pushed_out_only, retired_early, two_to_tell, inbox_asked}
+use Rattle.mr_model.proofs.Names.{Ask, Body.End, Covers, Selects, archive, closed_port, first_sync, inbox_asked, now, passed_on, pushed_out_only}
+use Rattle.mr_model.proofs.Names.{retired_early, row_setting, two_entries, two_to_tell, ◌•◌}
 use Rattle.mr_model.proofs.RefusalsHold.{refused_by, untrue, unfalse, one_not_two, asked, ask_of_one, its_start, start_alone, due_for_asker, first_not_second}
 use Rattle.mr_model.proofs.worked_rows.refusals.Goals as goal
 

@@ -1,8 +1,5 @@
 use Rattle.std.proofs.Common.{◌≡◌, filter, find, ap, ◌∙◌, List, Option}
-use Rattle.mr_madewith.specs.Revision.{Rev}
-use Rattle.mr_madewith.proofs.Rising.{rises-filter}
-use Rattle.mr_store.specs.Revisions.{version_of}
-use Rattle.mr_session.specs.Stream.{Asked, is_wanted, is_ahead, is_due, lower}
+use Rattle.mr_session.proofs.Names.{Asked, Rev, is_ahead, is_due, is_wanted, lower, rises-filter, version_of}
 use Rattle.mr_session.proofs.WalkLemmas.{due_ahead}
 use Rattle.mr_session.proofs.due.due.Goals as goal
 

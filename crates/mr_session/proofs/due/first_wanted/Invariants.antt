@@ -1,6 +1,5 @@
 use Rattle.std.proofs.Common.{◌≡◌, ◌+◌, length, find}
-use Rattle.mr_store.specs.Revisions.{AreInVersionOrder}
-use Rattle.mr_session.specs.Stream.{is_wanted, lower}
+use Rattle.mr_session.proofs.Names.{AreInVersionOrder, is_wanted, lower}
 use Rattle.mr_session.proofs.due.first_wanted.Given as goal
 
 -- what is found in what is left is what is found in all

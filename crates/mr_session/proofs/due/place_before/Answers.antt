@@ -1,9 +1,5 @@
 use Rattle.std.proofs.Common.{rules}
-use Rattle.std.proofs.lemmas.List.Sorted.{IsPartitionPoint-from_clause}
-use Rattle.mr_madewith.specs.Keyed.{is_before}
-use Rattle.mr_madewith.proofs.Rising.{sorted_by_name}
-use Rattle.mr_store.specs.Revisions.{version_of}
-use Rattle.mr_store.proofs.OrderLemmas.{parted_below}
+use Rattle.mr_session.proofs.Names.{IsPartitionPoint-from_clause, is_before, parted_below, sorted_by_name, version_of}
 use Rattle.mr_session.proofs.due.place_before.Goals as goal
 
 pub returns-clause-place : goal.returns-clause-place

@@ -1,10 +1,5 @@
 use Rattle.std.proofs.Common.{rules}
-use Rattle.std.specs.Ordering.{is_le}
-use Rattle.std.proofs.lemmas.List.Sorted.{IsPartitionPoint-from_clause}
-use Rattle.mr_version.specs.Name.{name_cmp}
-use Rattle.mr_madewith.proofs.Rising.{sorted_by_name}
-use Rattle.mr_store.specs.Revisions.{version_of}
-use Rattle.mr_store.proofs.OrderLemmas.{parted_up_to}
+use Rattle.mr_session.proofs.Names.{IsPartitionPoint-from_clause, is_le, name_cmp, parted_up_to, sorted_by_name, version_of}
 use Rattle.mr_session.proofs.due.place_behind.Goals as goal
 
 pub returns-clause-place : goal.returns-clause-place

@@ -1,6 +1,5 @@
 use Rattle.std.proofs.Common.{rules, [], ◌∷◌, ◌≡◌, ◌++◌, ◌+◌, map, drop, ◌∙◌, sym, ap}
-use Rattle.mr_version.specs.Name.{Name}
-use Rattle.mr_store.specs.Revisions.{version_of}
+use Rattle.mr_session.proofs.Names.{Name, version_of}
 use Rattle.mr_session.proofs.HeldLemmas.{Extends, has_none, has_more, has_one, is_full_at, extends_front, extends_done, extends_whole, extends_all, versions_from, none_from, pushed}
 use Rattle.mr_session.proofs.held.cut_vectors.Goals as goal
 use Rattle.mr_session.proofs.held.cut_vectors.Goals.{in-Ok, in-Err-TooManyHoles+in_ok-next-in-Err-TooManyHoles+in_ok-push_back-in-Err-TooManyHoles}

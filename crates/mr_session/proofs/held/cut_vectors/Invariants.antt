@@ -1,8 +1,5 @@
 use Rattle.std.proofs.Common.{◌++◌, List, map, drop}
-use Rattle.mr_version.specs.Name.{Name}
-use Rattle.mr_concise.specs.declared.vector.AuthorColumn.{AuthorColumn}
-use Rattle.mr_store.specs.Revisions.{version_of}
-use Rattle.mr_session.specs.Held.{HasJust, AreCut}
+use Rattle.mr_session.proofs.Names.{AreCut, AuthorColumn, HasJust, Name, version_of}
 use Rattle.mr_session.proofs.held.cut_vectors.Given as goal
 
 -- The vector is that of a front part; with whatever cuts that part and what is left, the vectors cut all.

@@ -1,6 +1,5 @@
 use Rattle.std.proofs.Common.{rules, ◌<◌, ◌+◌, ◌-◌, length, sym, ◌∙◌, ap}
-use Rattle.mr_version.specs.Name.{Name, name_eq}
-use Rattle.mr_session.specs.inner.Held.{counter_on}
+use Rattle.mr_session.proofs.Names.{Name, counter_on, name_eq}
 use Rattle.mr_session.proofs.RowLemmas.{row_up_to, found_on}
 use Rattle.mr_session.proofs.held_runs.row_length.Goals as goal
 

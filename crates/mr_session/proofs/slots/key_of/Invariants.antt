@@ -1,6 +1,5 @@
 use Rattle.std.proofs.Common.{◌≡◌, ℕ, Some, Contains}
-use Rattle.slab.specs.Slab.{get}
-use Rattle.mr_session.specs.declared.slots.Entry.{Entry}
+use Rattle.mr_session.proofs.Names.{Entry, get}
 use Rattle.mr_session.proofs.slots.key_of.Given as goal
 
 -- the number's entry is among those that are left, and each that is left is the slab's

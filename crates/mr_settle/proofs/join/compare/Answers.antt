@@ -1,7 +1,5 @@
 use Rattle.std.proofs.Common.{subst, sym, arith}
-use Rattle.std.proofs.lemmas.List.{take_all}
-use Rattle.std.proofs.lemmas.List.Elements.{All-more, All-same}
-use Rattle.mr_settle.specs.inner.Arrived.{IsOneInWorld}
+use Rattle.mr_settle.proofs.Names.{All-more, All-same, IsOneInWorld, take_all}
 use Rattle.mr_settle.proofs.join.compare.Goals as goal
 
 pub loop-end-preserved : goal.loop-end-preserved

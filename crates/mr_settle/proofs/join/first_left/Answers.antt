@@ -1,6 +1,5 @@
 use Rattle.std.proofs.Common.{subst, sym, arith, length, ◌+◌}
-use Rattle.mr_settle.specs.inner.Arrived.{FindsLeftTo}
-use Rattle.mr_settle.specs.inner.Carried.{done_of}
+use Rattle.mr_settle.proofs.Names.{FindsLeftTo, done_of}
 use Rattle.mr_settle.proofs.ArriveLemmas.{left_more, left_upto}
 use Rattle.mr_settle.proofs.join.first_left.Goals as goal
 

@@ -1,5 +1,4 @@
-use Rattle.mr_settle.specs.inner.Arrived.{FindsLeftTo}
-use Rattle.mr_settle.specs.inner.Carried.{done_of}
+use Rattle.mr_settle.proofs.Names.{FindsLeftTo, done_of}
 use Rattle.mr_settle.proofs.join.first_left.Given as goal
 
 abbrev pub invariant-loop-place : goal.invariant-loop-place

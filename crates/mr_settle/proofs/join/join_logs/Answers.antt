@@ -1,8 +1,5 @@
 use Rattle.std.proofs.Common.{subst, ap, List, None}
-use Rattle.mr_settle.specs.inner.Arrived.{FindsLeft}
-use Rattle.mr_settle.specs.inner.Carried.{done_of}
-use Rattle.mr_settle.specs.inner.Named.{given_by}
-use Rattle.mr_settle.specs.declared.progress.Progress.{Progress}
+use Rattle.mr_settle.proofs.Names.{FindsLeft, Progress, done_of, given_by}
 use Rattle.mr_settle.proofs.ArriveLemmas.{stuck_at, explained}
 use Rattle.mr_settle.proofs.KeptLemmas.{ends_keep, ends_keep_together}
 use Rattle.mr_settle.proofs.join.join_logs.Goals as goal

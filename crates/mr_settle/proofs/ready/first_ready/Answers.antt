@@ -1,8 +1,5 @@
 use Rattle.std.proofs.Common.{subst, arith, Option}
-use Rattle.mr_settle.specs.inner.Carried.{done_of}
-use Rattle.mr_settle.specs.inner.Named.{given_by}
-use Rattle.mr_settle.specs.inner.Ready.{FindsAt}
-use Rattle.mr_settle.specs.declared.ready.Ready.{Ready}
+use Rattle.mr_settle.proofs.Names.{FindsAt, Ready, done_of, given_by}
 use Rattle.mr_settle.proofs.ArriveLemmas.{rests_more}
 use Rattle.mr_settle.proofs.ready.first_ready.Goals as goal
 

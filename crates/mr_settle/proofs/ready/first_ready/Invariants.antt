@@ -1,7 +1,5 @@
 use Rattle.std.proofs.Common.{ℕ, ◌≤◌, ◌<◌}
-use Rattle.mr_settle.specs.inner.Carried.{done_of}
-use Rattle.mr_settle.specs.inner.Named.{given_by}
-use Rattle.mr_settle.specs.inner.Ready.{Rests}
+use Rattle.mr_settle.proofs.Names.{Rests, done_of, given_by}
 use Rattle.mr_settle.proofs.ready.first_ready.Given as goal
 
 abbrev pub invariant-loop-place : goal.invariant-loop-place

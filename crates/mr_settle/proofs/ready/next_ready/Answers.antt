@@ -1,8 +1,5 @@
 use Rattle.std.proofs.Common.{subst, length, Option}
-use Rattle.mr_settle.specs.inner.Carried.{done_of}
-use Rattle.mr_settle.specs.inner.Named.{given_by}
-use Rattle.mr_settle.specs.inner.Ready.{IsFirstReady}
-use Rattle.mr_settle.specs.declared.ready.Ready.{Ready}
+use Rattle.mr_settle.proofs.Names.{IsFirstReady, Ready, done_of, given_by}
 use Rattle.mr_settle.proofs.ArriveLemmas.{next_found}
 use Rattle.mr_settle.proofs.ready.next_ready.Goals as goal
 

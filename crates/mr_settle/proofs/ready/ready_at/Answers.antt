@@ -1,11 +1,6 @@
 use Rattle.std.proofs.Common.{refl, ap, subst, sym, ◌∙◌, length, ℕ, List, Option}
-use Rattle.std.specs.List.{slice_get}
-use Rattle.std.proofs.lemmas.Option.{slice_get_read}
-use Rattle.mr_mail.specs.Mail.{Mail}
-use Rattle.mr_model.specs.declared.event.Act.{Act}
+use Rattle.mr_settle.proofs.Names.{Act, HasBytes, IsUpToDate, Mail, Names, carried, given_by, slice_get, slice_get_read}
 use Rattle.mr_replica.specs.declared.event.Event.{Event as ReplicaEvent}
-use Rattle.mr_settle.specs.inner.Carried.{IsUpToDate, HasBytes, carried}
-use Rattle.mr_settle.specs.inner.Named.{Names, given_by}
 use Rattle.mr_settle.proofs.ProgressLemmas.{zip_get}
 use Rattle.mr_settle.proofs.ArriveLemmas.{ready_there, rests_unnamed}
 use Rattle.mr_settle.proofs.ready.ready_at.Goals as goal

@@ -1,8 +1,5 @@
 use Rattle.std.proofs.Common.{subst, sym, All}
-use Rattle.std.specs.List.{AllZip}
-use Rattle.std.proofs.lemmas.List.Elements.{All-push}
-use Rattle.mr_settle.specs.History.{IsSpecOf}
-use Rattle.mr_settle.specs.inner.Way.{HasGoodLimit}
+use Rattle.mr_settle.proofs.Names.{All-push, AllZip, HasGoodLimit, IsSpecOf}
 use Rattle.mr_settle.proofs.ListLemmas.{zip_take_more}
 use Rattle.mr_settle.proofs.start.specs_of.Goals as goal
 

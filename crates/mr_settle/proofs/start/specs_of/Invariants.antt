@@ -1,7 +1,5 @@
 use Rattle.std.proofs.Common.{take, All}
-use Rattle.std.specs.List.{AllZip}
-use Rattle.mr_settle.specs.History.{IsSpecOf}
-use Rattle.mr_settle.specs.inner.Way.{HasGoodLimit}
+use Rattle.mr_settle.proofs.Names.{AllZip, HasGoodLimit, IsSpecOf}
 use Rattle.mr_settle.proofs.start.specs_of.Given as goal
 
 abbrev pub invariant-loop-end : goal.invariant-loop-end

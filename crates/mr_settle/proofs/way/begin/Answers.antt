@@ -1,7 +1,5 @@
 use Rattle.std.proofs.Common.{subst, sym}
-use Rattle.mr_settle.specs.inner.Carried.{done_of}
-use Rattle.mr_settle.specs.inner.Named.{GivenNumbers}
-use Rattle.mr_settle.specs.inner.Way.{TellAll}
+use Rattle.mr_settle.proofs.Names.{GivenNumbers, TellAll, done_of}
 use Rattle.mr_settle.proofs.ProgressLemmas.{start_up_to_date, start_long, start_zero}
 use Rattle.mr_settle.proofs.WayLemmas.{begins, tell_nothing}
 use Rattle.mr_settle.proofs.way.begin.Goals as goal

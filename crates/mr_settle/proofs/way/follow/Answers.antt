@@ -1,9 +1,5 @@
 use Rattle.std.proofs.Common.{subst, List, Option, None}
-use Rattle.mr_settle.specs.inner.Carried.{done_of}
-use Rattle.mr_settle.specs.inner.Named.{given_by}
-use Rattle.mr_settle.specs.inner.Ready.{FindsReady}
-use Rattle.mr_settle.specs.declared.progress.Progress.{Progress}
-use Rattle.mr_settle.specs.declared.ready.Ready.{Ready}
+use Rattle.mr_settle.proofs.Names.{FindsReady, Progress, Ready, done_of, given_by}
 use Rattle.mr_settle.proofs.way.follow.Goals as goal
 
 pub returns-clause-rest : goal.returns-clause-rest

@@ -1,7 +1,4 @@
-use Rattle.std.specs.List.{AllZip}
-use Rattle.mr_settle.specs.inner.Carried.{IsUpToDate, done_of}
-use Rattle.mr_settle.specs.inner.Named.{given_by}
-use Rattle.mr_settle.specs.inner.Way.{IsUnderWay, TellAll, left_over}
+use Rattle.mr_settle.proofs.Names.{AllZip, IsUnderWay, IsUpToDate, TellAll, done_of, given_by, left_over}
 use Rattle.mr_settle.proofs.way.follow.Given as goal
 
 abbrev pub invariant-loop-way : goal.invariant-loop-way

@@ -1,8 +1,5 @@
 use Rattle.std.proofs.Common.{rules, subst, sym, refl, ◌<◌, ℕ, List, length, arith}
-use Rattle.std.proofs.lemmas.Option.{slice_get_read}
-use Rattle.mr_settle.specs.inner.Carried.{IsUpToDate, done_of}
-use Rattle.mr_settle.specs.inner.Named.{given_by}
-use Rattle.mr_settle.specs.inner.Way.{IsUnderWay, left_over}
+use Rattle.mr_settle.proofs.Names.{IsUnderWay, IsUpToDate, done_of, given_by, left_over, slice_get_read}
 use Rattle.mr_settle.proofs.ProgressLemmas.{done_set, zip_set}
 use Rattle.mr_settle.proofs.WayLemmas.{may_happen, ready_among, ready_in_progress, ready_goes_on, ready_tells, ready_nearer}
 use Rattle.mr_settle.proofs.way.go_on.Goals as goal

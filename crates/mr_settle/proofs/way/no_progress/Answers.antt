@@ -1,6 +1,5 @@
 use Rattle.std.proofs.Common.{subst, sym}
-use Rattle.std.specs.List.{AllZip}
-use Rattle.mr_settle.specs.inner.Carried.{IsProgressAt}
+use Rattle.mr_settle.proofs.Names.{AllZip, IsProgressAt}
 use Rattle.mr_settle.proofs.ListLemmas.{zip_take_more}
 use Rattle.mr_settle.proofs.way.no_progress.Goals as goal
 

@@ -1,7 +1,5 @@
 use Rattle.std.proofs.Common.{rules}
-use Rattle.std.proofs.lemmas.List.Sorted.{answers_always}
-use Rattle.mr_store.specs.Revisions.{version_of}
-use Rattle.mr_madewith.proofs.Found.{searched}
+use Rattle.mr_store.proofs.Names.{answers_always, searched, version_of}
 use Rattle.mr_store.proofs.by_version.search.Goals as goal
 
 -- the closure gives a revision's version

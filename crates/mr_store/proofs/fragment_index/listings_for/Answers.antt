@@ -1,8 +1,6 @@
 use Rattle.std.proofs.Common.{◌≡◌, ◌<◌, ◌+◌, ◌-◌, false, length, get_or, sym, ap, ◌∙◌, arith}
-use Rattle.std.proofs.lemmas.List.{get_or_default}
+use Rattle.mr_store.proofs.Names.{Listing, get_or_default, is_for}
 use Rattle.mr_concise.proofs.NameLemmas.{name_eq_parts}
-use Rattle.mr_store.specs.declared.fragment_index.Listing.{Listing}
-use Rattle.mr_store.specs.inner.FragmentIndex.{is_for}
 use Rattle.mr_store.proofs.FragmentIndexLemmas.{those_from}
 use Rattle.mr_store.proofs.fragment_index.listings_for.Goals as goal
 use Rattle.mr_store.proofs.fragment_index.listings_for.Goals.{then-loop-to-test+else-eq, else-loop-to-test}

@@ -1,6 +1,5 @@
 use Rattle.std.proofs.Common.{◌≡◌, ◌≤◌, ◌<◌, ◌-◌, ℕ, true, length, get_or}
-use Rattle.mr_store.specs.declared.fragment_index.Listing.{Listing}
-use Rattle.mr_store.specs.inner.FragmentIndex.{is_for}
+use Rattle.mr_store.proofs.Names.{Listing, is_for}
 use Rattle.mr_store.proofs.fragment_index.listings_for.Given as goal
 
 -- those so far are of the item

@@ -1,8 +1,5 @@
 use Rattle.std.proofs.Common.{rules}
-use Rattle.std.specs.Ordering.{is_lt}
-use Rattle.std.proofs.lemmas.List.Sorted.{IsPartitionPoint-from_clause}
-use Rattle.mr_version.specs.Name.{name_cmp}
-use Rattle.mr_store.specs.FragmentIndex.{item_of}
+use Rattle.mr_store.proofs.Names.{IsPartitionPoint-from_clause, is_lt, item_of, name_cmp}
 use Rattle.mr_store.proofs.OrderLemmas.{parted_below}
 use Rattle.mr_store.proofs.fragment_index.place_of.Goals as goal
 

@@ -1,6 +1,5 @@
 use Rattle.std.proofs.Common.{rules}
-use Rattle.std.proofs.lemmas.List.Sorted.{answers_always}
-use Rattle.mr_store.specs.FragmentIndex.{item_of}
+use Rattle.mr_store.proofs.Names.{answers_always, item_of}
 use Rattle.mr_store.proofs.fragment_index.sort_by_item.Goals as goal
 
 pub returns-clause-sorted : goal.returns-clause-sorted

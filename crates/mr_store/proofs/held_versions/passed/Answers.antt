@@ -1,11 +1,6 @@
 use Rattle.std.proofs.Common.{◌≡◌, false, sym, subst, take}
 use Rattle.mr_concise.specs.Next.{IsNextOut}
-use Rattle.mr_concise.specs.AnyOf.{in_any}
-use Rattle.mr_concise.specs.inner.AnyOf.{IsPassed}
-use Rattle.mr_concise.proofs.AnyOfLemmas.{in_any-more_is, IsPassed-more}
-use Rattle.mr_forms.specs.Sets.{Versions}
-use Rattle.mr_forms.specs.Runs.{of_author}
-use Rattle.mr_store.specs.HeldVersions.{by_held}
+use Rattle.mr_store.proofs.Names.{IsPassed, IsPassed-more, Versions, by_held, in_any, in_any-more_is, of_author}
 use Rattle.mr_store.proofs.HeldVersionLemmas.{looked_up}
 use Rattle.mr_store.proofs.held_versions.passed.Goals as goal
 

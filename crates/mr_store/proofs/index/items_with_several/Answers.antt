@@ -1,8 +1,5 @@
 use Rattle.std.proofs.Common.{◌≡◌, sym, subst, ◌∙◌, ap, List}
-use Rattle.std.proofs.lemmas.List.{append-nil}
-use Rattle.std.specs.List.Sorted.{IsStrictlySortedBy}
-use Rattle.mr_version.specs.Name.{Name, name_cmp}
-use Rattle.mr_forms.specs.Sets.{is_listed}
+use Rattle.mr_store.proofs.Names.{IsStrictlySortedBy, Name, append-nil, is_listed, name_cmp}
 use Rattle.mr_store.proofs.Several.{several, several-rises, is_listed-several}
 use Rattle.mr_store.proofs.index.items_with_several.Goals as goal
 

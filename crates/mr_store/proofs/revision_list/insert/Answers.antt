@@ -1,6 +1,5 @@
 use Rattle.std.proofs.Common.{subst, sym}
-use Rattle.mr_store.specs.Revisions.{AreInVersionOrder, version_of}
-use Rattle.mr_madewith.proofs.Rising.{rises-inserted}
+use Rattle.mr_store.proofs.Names.{AreInVersionOrder, rises-inserted, version_of}
 use Rattle.mr_store.proofs.RevisionLemmas.{found_is_there}
 use Rattle.mr_store.proofs.revision_list.insert.Goals as goal
 

@@ -1,8 +1,5 @@
 use Rattle.std.proofs.Common.{◌≡◌, List, ◌∙◌, arith, not, sym, ap, is_some}
-use Rattle.std.specs.List.{filter}
-use Rattle.mr_version.specs.Name.{Name}
-use Rattle.mr_store.specs.Leaving.{leaves}
-use Rattle.mr_store.specs.Revisions.{versions_of}
+use Rattle.mr_store.proofs.Names.{Name, filter, leaves, versions_of}
 use Rattle.mr_store.proofs.RevisionLemmas.{is_none_of, left_by-listed}
 use Rattle.mr_store.proofs.IndexLemmas.{listed_matches, listed-mapped, room-kept}
 use Rattle.mr_store.proofs.revision_list.let_leave.Goals as goal

@@ -1,7 +1,5 @@
 use Rattle.std.proofs.Common.{not}
-use Rattle.mr_version.specs.Name.{name_eq}
-use Rattle.mr_store.specs.Revisions.{version_of}
-use Rattle.mr_madewith.proofs.Rising.{rises-filter}
+use Rattle.mr_store.proofs.Names.{name_eq, rises-filter, version_of}
 use Rattle.mr_store.proofs.revision_list.remove.Goals as goal
 
 pub returns-in-Ok-clause-in_order : goal.returns-in-Ok-clause-in_order

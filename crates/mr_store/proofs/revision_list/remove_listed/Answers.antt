@@ -1,11 +1,5 @@
 use Rattle.std.proofs.Common.{◌≡◌, ◌+◌, ap, sym, ◌∙◌, List, [], ◌∷◌, ◌++◌, take, arith}
-use Rattle.std.specs.List.{filter}
-use Rattle.std.proofs.lemmas.List.{take_more}
-use Rattle.mr_store.specs.Leaving.{leaves}
-use Rattle.mr_version.specs.Name.{Name}
-use Rattle.mr_madewith.specs.Revision.{Rev}
-use Rattle.mr_madewith.specs.Keyed.{without}
-use Rattle.mr_store.specs.Revisions.{version_of}
+use Rattle.mr_store.proofs.Names.{Name, Rev, filter, leaves, take_more, version_of, without}
 use Rattle.mr_store.proofs.RevisionLemmas.{is_none_of, filter-all, without-more, is_none_of-more}
 use Rattle.mr_store.proofs.revision_list.remove_listed.Goals.{then-leaves, else-leaves}
 use Rattle.mr_store.proofs.revision_list.remove_listed.Goals as goal

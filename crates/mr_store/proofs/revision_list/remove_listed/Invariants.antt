@@ -1,7 +1,5 @@
 use Rattle.std.proofs.Common.{◌≡◌, ◌≤◌, take}
-use Rattle.std.specs.List.{filter}
-use Rattle.mr_store.specs.Leaving.{leaves}
-use Rattle.mr_store.specs.Revisions.{AreInVersionOrder}
+use Rattle.mr_store.proofs.Names.{AreInVersionOrder, filter, leaves}
 use Rattle.mr_store.proofs.RevisionLemmas.{is_none_of}
 use Rattle.mr_store.proofs.revision_list.remove_listed.Given as goal
 

@@ -1,9 +1,5 @@
 use Rattle.std.proofs.Common.{sym, subst, take, take_all}
-use Rattle.mr_forms.specs.Sets.{Versions}
-use Rattle.mr_forms.specs.Runs.{of_author}
-use Rattle.mr_concise.specs.AnyOf.{in_any}
-use Rattle.mr_concise.proofs.AnyOfLemmas.{in_any-more_is, NextIn, NextIn-lower}
-use Rattle.mr_store.specs.inner.Unheld.{by_vector}
+use Rattle.mr_store.proofs.Names.{NextIn, NextIn-lower, Versions, by_vector, in_any, in_any-more_is, of_author}
 use Rattle.mr_store.proofs.unheld.next_in_some.Goals as goal
 
 pub loop-fragment-preserved : goal.loop-fragment-preserved

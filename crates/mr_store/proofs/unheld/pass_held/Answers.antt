@@ -1,7 +1,5 @@
 use Rattle.std.proofs.Common.{arith, sym}
-use Rattle.std.proofs.lemmas.List.{length-drop}
-use Rattle.mr_madewith.specs.Revision.{Rev}
-use Rattle.mr_store.specs.Unheld.{is_unheld}
+use Rattle.mr_store.proofs.Names.{Rev, is_unheld, length-drop}
 use Rattle.mr_store.proofs.PassLemmas.{rest_of, drop_rises, filter_passed, held_stays}
 use Rattle.mr_store.proofs.unheld.pass_held.Goals as goal
 

@@ -1,6 +1,5 @@
 use Rattle.std.proofs.Common.{◌≡◌, ◌++◌, ◌∷◌, [], List, filter, Bool, sym, ap, ◌∙◌, append_assoc}
-use Rattle.mr_madewith.specs.Revision.{Rev}
-use Rattle.mr_store.specs.Unheld.{is_unheld}
+use Rattle.mr_store.proofs.Names.{Rev, is_unheld}
 use Rattle.mr_store.proofs.PassLemmas.{rest_rises, keeps_first, passes_first}
 use Rattle.mr_store.proofs.unheld.unheld_of.Goals.{then-is_unheld+in_ok-copy+in_ok-push, else-is_unheld}
 use Rattle.mr_store.proofs.unheld.unheld_of.Goals as goal

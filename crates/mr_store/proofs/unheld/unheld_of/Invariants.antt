@@ -1,7 +1,5 @@
 use Rattle.std.proofs.Common.{◌≡◌, ◌++◌, length, filter}
-use Rattle.mr_madewith.specs.Revision.{Rev}
-use Rattle.mr_store.specs.Revisions.{AreInVersionOrder}
-use Rattle.mr_store.specs.Unheld.{is_unheld}
+use Rattle.mr_store.proofs.Names.{AreInVersionOrder, Rev, is_unheld}
 use Rattle.mr_store.proofs.unheld.unheld_of.Given as goal
 
 -- those so far and those of the rest are all

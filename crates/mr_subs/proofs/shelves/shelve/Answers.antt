@@ -1,9 +1,5 @@
 use Rattle.std.proofs.Common.{◌∙◌, refl, ap, subst, cond, true, Some, IsSome, Result, Ok, Err, OnErr}
-use Rattle.std.specs.Ordering.{is_eq}
-use Rattle.mr_version.specs.Name.{name_eq}
-use Rattle.mr_mail.specs.Label.{text_cmp}
-use Rattle.mr_feed.specs.Fold.{is_listed}
-use Rattle.mr_subs.specs.Index.{shelf, set_has}
+use Rattle.mr_subs.proofs.Names.{is_eq, is_listed, name_eq, set_has, shelf, text_cmp}
 use Rattle.mr_subs.proofs.ShelfLemmas.{on_shelf-written, on_shelf-same}
 use Rattle.mr_subs.proofs.shelves.shelve.Goals as goal
 

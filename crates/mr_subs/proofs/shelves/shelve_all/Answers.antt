@@ -1,6 +1,5 @@
 use Rattle.std.proofs.Common.{inl, inr, ◌∙◌, ap, true, cond}
-use Rattle.mr_subs.specs.Index.{on_shelf}
-use Rattle.mr_subs.specs.inner.Index.{is_place}
+use Rattle.mr_subs.proofs.Names.{is_place, on_shelf}
 use Rattle.mr_subs.proofs.LabelLemmas.{has_label-take_more, is_place-itself, stays-filled}
 use Rattle.mr_subs.proofs.shelves.shelve_all.Goals as goal
 

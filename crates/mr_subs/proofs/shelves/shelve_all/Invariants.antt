@@ -1,7 +1,5 @@
 use Rattle.std.proofs.Common.{ℕ, List, IsTrue, take}
-use Rattle.mr_version.specs.Name.{Name}
-use Rattle.mr_mail.specs.Label.{has_label}
-use Rattle.mr_subs.specs.Index.{on_shelf}
+use Rattle.mr_subs.proofs.Names.{Name, has_label, on_shelf}
 use Rattle.mr_subs.proofs.shelves.shelve_all.Given as goal
 
 -- the version stands under the labels up to here, and what stood stays

@@ -1,6 +1,5 @@
 use Rattle.std.proofs.Common.{◌∙◌, refl, sym, ap, subst, cond, false, IsSome}
-use Rattle.mr_version.specs.Name.{name_eq}
-use Rattle.mr_subs.specs.Index.{on_shelf, set_has}
+use Rattle.mr_subs.proofs.Names.{name_eq, on_shelf, set_has}
 use Rattle.mr_subs.proofs.ShelfLemmas.{on_shelf-written, on_shelf-none}
 use Rattle.mr_subs.proofs.shelves.unshelve.Goals as goal
 

@@ -1,6 +1,5 @@
 use Rattle.std.proofs.Common.{◌∙◌, sym}
-use Rattle.mr_subs.specs.Index.{on_shelf}
-use Rattle.mr_subs.specs.inner.Index.{is_place}
+use Rattle.mr_subs.proofs.Names.{is_place, on_shelf}
 use Rattle.mr_subs.proofs.LabelLemmas.{is_place-other_label, is_place-other_version, stays-emptied}
 use Rattle.mr_subs.proofs.shelves.unshelve_others.Goals as goal
 use Rattle.mr_subs.proofs.shelves.unshelve_others.Goals.{then-not-is_among, else-not-is_among}

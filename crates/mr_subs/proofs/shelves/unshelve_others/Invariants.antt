@@ -1,7 +1,5 @@
 use Rattle.std.proofs.Common.{ℕ, List, IsTrue, IsFalse}
-use Rattle.mr_version.specs.Name.{Name, name_eq}
-use Rattle.mr_mail.specs.Label.{has_label}
-use Rattle.mr_subs.specs.Index.{on_shelf}
+use Rattle.mr_subs.proofs.Names.{Name, has_label, name_eq, on_shelf}
 use Rattle.mr_subs.proofs.shelves.unshelve_others.Given as goal
 
 -- what stands under the other labels stays, and so do other versions

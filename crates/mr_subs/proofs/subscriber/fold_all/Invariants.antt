@@ -1,6 +1,5 @@
 use Rattle.std.proofs.Common.{List}
-use Rattle.mr_feed.specs.declared.entry.Entry.{Entry}
-use Rattle.mr_subs.specs.Subscriber.{Applies}
+use Rattle.mr_subs.proofs.Names.{Applies, Entry}
 use Rattle.mr_subs.proofs.subscriber.fold_all.Given as goal
 
 -- what was taken so far is folded in

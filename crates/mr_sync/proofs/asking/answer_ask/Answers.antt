@@ -1,7 +1,5 @@
 use Rattle.std.proofs.Common.{refl}
-use Rattle.mr_kept.specs.Kept.{journal_of, replica_of}
-use Rattle.mr_sync.specs.Asking.{IsAnswerFault}
-use Rattle.mr_sync.specs.declared.fault.SyncFault.TheVariants.{OutOfMemory, Kept}
+use Rattle.mr_sync.proofs.Names.{IsAnswerFault, Kept, OutOfMemory, journal_of, replica_of}
 use Rattle.mr_sync.proofs.TakeLaws.{no_request, passed_on, refused_ask}
 use Rattle.mr_sync.proofs.asking.answer_ask.Goals as goal
 

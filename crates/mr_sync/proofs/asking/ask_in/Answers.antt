@@ -1,5 +1,4 @@
-use Rattle.mr_sync.specs.Asking.{IsNoRequestOf}
-use Rattle.mr_sync.specs.Fault.{fault_of_wire}
+use Rattle.mr_sync.proofs.Names.{IsNoRequestOf, fault_of_wire}
 use Rattle.mr_sync.proofs.TakeLaws.{ask_or_none, ask_whole, no_frame, passed_on}
 use Rattle.mr_sync.proofs.asking.ask_in.Goals as goal
 

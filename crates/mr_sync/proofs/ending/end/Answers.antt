@@ -1,9 +1,5 @@
 use Rattle.std.proofs.Common.{rules, subst}
-use Rattle.mr_itemset.specs.Normal.{Normal}
-use Rattle.mr_kept.specs.Kept.{replica_of}
-use Rattle.mr_replica.specs.State.{State}
-use Rattle.mr_sync.specs.Ending.{IsEndFault}
-use Rattle.mr_sync.specs.Fault.{fault_of_form}
+use Rattle.mr_sync.proofs.Names.{IsEndFault, Normal, State, fault_of_form, replica_of}
 use Rattle.mr_sync.proofs.HelloLaws.{end_unfinished, end_untold}
 use Rattle.mr_sync.proofs.TakeLaws.{passed_on}
 use Rattle.mr_sync.proofs.ending.end.Goals as goal

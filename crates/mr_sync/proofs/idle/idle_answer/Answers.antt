@@ -1,5 +1,4 @@
-use Rattle.std.specs.Prelude.{Some}
-use Rattle.mr_sync.specs.Idle.{AreIdle, IsAnswer}
+use Rattle.mr_sync.proofs.Names.{AreIdle, IsAnswer, Some}
 use Rattle.mr_sync.proofs.IdleLaws.{answered_so, none_more, said_at}
 use Rattle.mr_sync.proofs.idle.idle_answer.Goals as goal
 

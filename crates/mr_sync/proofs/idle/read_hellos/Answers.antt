@@ -1,9 +1,5 @@
 use Rattle.std.proofs.Common.{◌≡◌, ◌<◌, ◌⊎◌, inl, inr, ◌+◌, List, [], ◌∷◌, ◌++◌, length, subst, sym, rules, arith}
-use Rattle.std.specs.Prelude.{MatchOption}
-use Rattle.std.specs.List.{AllByRecursion, flat_map}
-use Rattle.std.proofs.lemmas.List.{length-append}
-use Rattle.mr_sync.specs.Idle.{AreSpelled, IsHellos, hellos_bytes}
-use Rattle.mr_sync.specs.declared.idle.Hellos.{Hellos}
+use Rattle.mr_sync.proofs.Names.{AllByRecursion, AreSpelled, Hellos, IsHellos, MatchOption, flat_map, hellos_bytes, length-append}
 use Rattle.mr_sync.proofs.IdleLaws.{all_more, grow, no_pair, read_all, read_same}
 use Rattle.mr_sync.proofs.idle.read_hellos.Goals.{else-loop-test, then-loop-test+in_default}
 use Rattle.mr_sync.proofs.idle.read_hellos.Goals as goal

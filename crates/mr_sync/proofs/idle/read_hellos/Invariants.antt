@@ -1,6 +1,5 @@
 use Rattle.std.proofs.Common.{◌≡◌, ◌++◌, length}
-use Rattle.std.specs.List.{AllByRecursion, flat_map}
-use Rattle.mr_sync.specs.Idle.{IsHellos, hellos_bytes}
+use Rattle.mr_sync.proofs.Names.{AllByRecursion, IsHellos, flat_map, hellos_bytes}
 use Rattle.mr_sync.proofs.idle.read_hellos.Given as goal
 
 abbrev pub invariant-loop : goal.invariant-loop

@@ -1,6 +1,5 @@
 use Rattle.std.proofs.Common.{◌≡◌, take}
-use Rattle.std.specs.List.{flat_map}
-use Rattle.mr_sync.specs.Idle.{hellos_bytes}
+use Rattle.mr_sync.proofs.Names.{flat_map, hellos_bytes}
 use Rattle.mr_sync.proofs.idle.write_hellos.Given as goal
 
 abbrev pub invariant-loop-talk : goal.invariant-loop-talk

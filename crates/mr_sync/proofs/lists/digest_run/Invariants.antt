@@ -1,6 +1,5 @@
 use Rattle.std.proofs.Common.{◌-◌, ℕ}
-use Rattle.mr_wire.proofs.RunLemmas.{Running}
-use Rattle.mr_sync.specs.inner.Lists.{digest_at}
+use Rattle.mr_sync.proofs.Names.{Running, digest_at}
 use Rattle.mr_sync.proofs.ListLaws.{same_place}
 use Rattle.mr_sync.proofs.lists.digest_run.Given as goal
 

@@ -1,6 +1,5 @@
 use Rattle.std.proofs.Common.{◌-◌, ℕ}
-use Rattle.mr_wire.proofs.RunLemmas.{Running}
-use Rattle.mr_sync.specs.inner.Lists.{push_out_at}
+use Rattle.mr_sync.proofs.Names.{Running, push_out_at}
 use Rattle.mr_sync.proofs.ListLaws.{same_place}
 use Rattle.mr_sync.proofs.lists.push_out_run.Given as goal
 

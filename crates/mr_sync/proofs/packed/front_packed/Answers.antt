@@ -1,6 +1,5 @@
 use Rattle.std.proofs.Common.{List, ℕ, ◌+◌, ◌-◌, arith, ap, subst, sym, ◌++◌, ◌∙◌}
-use Rattle.mr_talk.specs.declared.kind.TheConstants.{MAX_PACKED_BYTES}
-use Rattle.mr_sync.specs.inner.Packed.{PacksSoFar}
+use Rattle.mr_sync.proofs.Names.{MAX_PACKED_BYTES, PacksSoFar}
 use Rattle.mr_sync.proofs.PackLaws.{packs_more, packs_none}
 use Rattle.mr_sync.proofs.packed.front_packed.Goals as goal
 

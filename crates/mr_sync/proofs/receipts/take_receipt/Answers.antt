@@ -1,10 +1,5 @@
 use Rattle.std.proofs.Common.{refl}
-use Rattle.mr_itemset.specs.Sparing.{sparing_form}
-use Rattle.mr_kept.specs.Answered.{reply_by}
-use Rattle.mr_kept.specs.Kept.{journal_of, replica_of}
-use Rattle.mr_replica.specs.declared.event.Event.TheVariants.{Release}
-use Rattle.mr_replica.specs.declared.event.Reply.TheVariants.{Done}
-use Rattle.mr_sync.specs.Taken.{LetsGoFor}
+use Rattle.mr_sync.proofs.Names.{Done, LetsGoFor, Release, journal_of, replica_of, reply_by, sparing_form}
 use Rattle.mr_sync.proofs.GrowLaws.{grows_not, answered_grows}
 use Rattle.mr_sync.proofs.ReleaseLaws.{released_one}
 use Rattle.mr_sync.proofs.receipts.take_receipt.Goals as goal

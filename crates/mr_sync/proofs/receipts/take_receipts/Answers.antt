@@ -1,9 +1,5 @@
 use Rattle.std.proofs.Common.{◌≡◌, List, [], arith, refl, subst}
-use Rattle.std.specs.Vec.Iter.{into_iter_items}
-use Rattle.std.proofs.lemmas.Grind.{common_steps}
-use Rattle.mr_kept.specs.Kept.{replica_of}
-use Rattle.mr_wire.specs.declared.frame.Frame.{Frame}
-use Rattle.mr_sync.specs.Taken.{LetsGoFor, ReleasesAll}
+use Rattle.mr_sync.proofs.Names.{Frame, LetsGoFor, ReleasesAll, common_steps, into_iter_items, replica_of}
 use Rattle.mr_sync.proofs.GrowLaws.{grows_not, grows_on}
 use Rattle.mr_sync.proofs.ReleaseLaws.{released_more, released_none}
 use Rattle.mr_sync.proofs.receipts.take_receipts.Goals as goal

@@ -1,8 +1,4 @@
-use Rattle.std.specs.Vec.Iter.{into_iter_items}
-use Rattle.mr_itemset.specs.Normal.{Normal}
-use Rattle.mr_kept.specs.Kept.{replica_of}
-use Rattle.mr_replica.specs.State.{State}
-use Rattle.mr_sync.specs.Taken.{GrowsOnlyBy, LetsGoFor, ReleasesAll}
+use Rattle.mr_sync.proofs.Names.{GrowsOnlyBy, LetsGoFor, Normal, ReleasesAll, State, into_iter_items, replica_of}
 use Rattle.mr_sync.proofs.receipts.take_receipts.Given as goal
 
 -- the log grew by such events only; and what the rest lets go, all of them let go

@@ -1,9 +1,6 @@
 use Rattle.std.proofs.Common.{ap}
-use Rattle.mr_itemset.specs.Normal.{Normal}
-use Rattle.mr_kept.specs.Kept.{replica_of}
-use Rattle.mr_replica.specs.State.{State}
+use Rattle.mr_sync.proofs.Names.{LetsGoFor, Normal, State, replica_of}
 use Rattle.std.proofs.Common.{refl}
-use Rattle.mr_sync.specs.Taken.{LetsGoFor}
 use Rattle.mr_sync.proofs.GrowLaws.{grows_not, grows_so, grows_unmet}
 use Rattle.mr_sync.proofs.ReleaseLaws.{takes_receipts}
 use Rattle.mr_sync.proofs.receipts.take_receipts_message.Goals as goal

@@ -1,6 +1,5 @@
 use Rattle.std.proofs.Common.{ℕ, List, take, arith, ap, length, length-drop, subst}
-use Rattle.std.proofs.lemmas.List.{take_rest}
-use Rattle.mr_wire.specs.Grammar.{Spells}
+use Rattle.mr_sync.proofs.Names.{Spells, take_rest}
 use Rattle.mr_sync.proofs.FrameRuns.{frames_more}
 use Rattle.mr_sync.proofs.records.frames_in.Goals as goal
 

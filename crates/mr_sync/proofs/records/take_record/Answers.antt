@@ -1,10 +1,6 @@
 use Rattle.std.proofs.Common.{refl}
-use Rattle.mr_itemset.specs.Sparing.{sparing_form}
-use Rattle.mr_kept.specs.Answered.{reply_by}
-use Rattle.mr_kept.specs.Kept.{journal_of, replica_of}
+use Rattle.mr_sync.proofs.Names.{Receive, TakesRecordOf, journal_of, replica_of, reply_by, sparing_form}
 use Rattle.mr_replica.specs.Methods.{received_reply}
-use Rattle.mr_replica.specs.declared.event.Event.TheVariants.{Receive}
-use Rattle.mr_sync.specs.Taken.{TakesRecordOf}
 use Rattle.mr_sync.proofs.GrowLaws.{grows_not, answered_grows, answered_log}
 use Rattle.mr_sync.proofs.records.take_record.Goals as goal
 

@@ -1,8 +1,5 @@
 use Rattle.std.proofs.Common.{List, ◌++◌, map, refl, ap, ◌∙◌}
-use Rattle.mr_kept.specs.Kept.{replica_of}
-use Rattle.mr_replica.specs.declared.event.Event.TheVariants.{Receive}
-use Rattle.mr_wire.specs.declared.frame.Frame.{Frame}
-use Rattle.mr_sync.specs.Taken.{TakesRecordOf}
+use Rattle.mr_sync.proofs.Names.{Frame, Receive, TakesRecordOf, replica_of}
 use Rattle.mr_sync.proofs.GrowLaws.{grows_not, grows_on, taken_more}
 use Rattle.mr_sync.proofs.records.take_records.Goals as goal
 

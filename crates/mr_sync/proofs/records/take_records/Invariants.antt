@@ -1,8 +1,5 @@
 use Rattle.std.proofs.Common.{◌≡◌, ◌++◌, map}
-use Rattle.std.specs.Vec.Iter.{into_iter_items}
-use Rattle.mr_kept.specs.Kept.{replica_of}
-use Rattle.mr_replica.specs.declared.event.Event.TheVariants.{Receive}
-use Rattle.mr_sync.specs.Taken.{GrowsOnlyBy, TakesRecordOf}
+use Rattle.mr_sync.proofs.Names.{GrowsOnlyBy, Receive, TakesRecordOf, into_iter_items, replica_of}
 use Rattle.mr_sync.proofs.records.take_records.Given as goal
 
 -- the log grew by such events only, and what is taken and what is left is all; the last frame is as it was

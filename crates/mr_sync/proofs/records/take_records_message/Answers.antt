@@ -1,8 +1,5 @@
 use Rattle.std.proofs.Common.{ap, refl, ◌∙◌}
-use Rattle.mr_itemset.specs.Normal.{Normal}
-use Rattle.mr_kept.specs.Kept.{replica_of}
-use Rattle.mr_replica.specs.State.{State}
-use Rattle.mr_sync.specs.Taken.{TakesRecordOf}
+use Rattle.mr_sync.proofs.Names.{Normal, State, TakesRecordOf, replica_of}
 use Rattle.mr_sync.proofs.GrowLaws.{grows_not, grows_so, grows_unmet, takes_records}
 use Rattle.mr_sync.proofs.SayLaws.{so_ok}
 use Rattle.mr_sync.proofs.records.take_records_message.Goals as goal

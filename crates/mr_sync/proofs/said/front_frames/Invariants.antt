@@ -1,6 +1,5 @@
 use Rattle.std.proofs.Common.{◌≤◌, length}
-use Rattle.mr_talk.specs.declared.kind.TheConstants.{MAX_FRAMES_BYTES}
-use Rattle.mr_sync.specs.inner.Said.{FrontIs}
+use Rattle.mr_sync.proofs.Names.{FrontIs, MAX_FRAMES_BYTES}
 use Rattle.mr_sync.proofs.said.front_frames.Given as goal
 
 abbrev pub invariant-loop : goal.invariant-loop

@@ -1,6 +1,5 @@
 use Rattle.std.proofs.Common.{refl}
-use Rattle.mr_replica.specs.declared.event.Reply.TheVariants.{Gave, Vouched}
-use Rattle.mr_sync.specs.inner.Said.{receipt_frame, record_frame}
+use Rattle.mr_sync.proofs.Names.{Gave, Vouched, receipt_frame, record_frame}
 use Rattle.mr_sync.proofs.SayLaws.{on_ok, said_one}
 use Rattle.mr_sync.proofs.said.say_one.Goals as goal
 

@@ -1,6 +1,5 @@
 use Rattle.std.proofs.Common.{◌≡◌, [], drop, arith, ap, sym, ◌∙◌}
-use Rattle.std.proofs.lemmas.Grind.{common_steps}
-use Rattle.mr_sync.specs.Taken.{with_waiting}
+use Rattle.mr_sync.proofs.Names.{common_steps, with_waiting}
 use Rattle.mr_sync.proofs.TakenLists.{waiting_more}
 use Rattle.mr_sync.proofs.vouching.note_waiting.Goals as goal
 

@@ -1,8 +1,5 @@
 use Rattle.std.proofs.Common.{sym, append-nil}
-use Rattle.mr_itemset.specs.Sparing.{sparing_form}
-use Rattle.mr_kept.specs.Kept.{journal_of, replica_of}
-use Rattle.mr_replica.specs.declared.event.Event.TheVariants.{Vouch}
-use Rattle.mr_sync.specs.declared.lists.PushOut.{PushOut}
+use Rattle.mr_sync.proofs.Names.{PushOut, Vouch, journal_of, replica_of, sparing_form}
 use Rattle.mr_sync.proofs.GrowLaws.{answered_log, told_more}
 use Rattle.mr_sync.proofs.vouching.vouch_all.Goals as goal
 

@@ -1,7 +1,5 @@
 use Rattle.std.proofs.Common.{◌≡◌, ◌++◌, map, take}
-use Rattle.mr_kept.specs.Kept.{replica_of}
-use Rattle.mr_replica.specs.declared.event.Event.TheVariants.{Vouch}
-use Rattle.mr_sync.specs.declared.lists.PushOut.{PushOut}
+use Rattle.mr_sync.proofs.Names.{PushOut, Vouch, replica_of}
 use Rattle.mr_sync.proofs.vouching.vouch_all.Given as goal
 
 abbrev pub invariant-loop-head : goal.invariant-loop-head

@@ -1,6 +1,5 @@
 use Rattle.std.proofs.Common.{◌≡◌, ◌<◌, rules}
-use Rattle.mr_version.specs.declared.author.TheConstants.{AUTHORS}
-use Rattle.mr_talk.specs.declared.hello.TheConstants.{HELLO_FORMAT}
+use Rattle.mr_talk.proofs.Names.{AUTHORS, HELLO_FORMAT}
 use Rattle.mr_talk.proofs.HelloLaws.{good}
 use Rattle.mr_talk.proofs.hello.hello_of.Goals as goal
 

@@ -1,7 +1,5 @@
 use Rattle.std.proofs.Common.{◌≡◌, Option, Some, Result, Ok, subst}
-use Rattle.mr_talk.specs.declared.fault.MessageFault.{MessageFault}
-use Rattle.mr_talk.specs.Said.{Said}
-use Rattle.mr_talk.specs.Reader.{Nexts}
+use Rattle.mr_talk.proofs.Names.{MessageFault, Nexts, Said}
 use Rattle.mr_talk.proofs.LineLaws.{receive_gives, same_self}
 use Rattle.mr_talk.proofs.line.receive_from.Goals as goal
 

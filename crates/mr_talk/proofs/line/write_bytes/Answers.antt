@@ -1,9 +1,6 @@
 -- What was written is a front of the bytes, and a write adds some of what is left.
 use Rattle.std.proofs.Common.{◌-◌, ◌++◌, length, take, drop, sym, ap, subst, ◌∙◌, arith, length-take}
-use Rattle.std.proofs.KnownBytes.{Appends-kept, Appends-trans}
-use Rattle.std.proofs.Math.Seq.{take-add}
-use Rattle.std.proofs.lemmas.List.{take-take}
-use Rattle.std.specs.Io.KnownBytes.{Appends}
+use Rattle.mr_talk.proofs.Names.{Appends, Appends-kept, Appends-trans, take-add, take-take}
 use Rattle.mr_talk.proofs.LineLaws.{begun_take, holds_on_err}
 use Rattle.mr_talk.proofs.line.write_bytes.Goals as goal
 

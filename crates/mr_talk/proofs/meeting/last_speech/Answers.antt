@@ -1,8 +1,6 @@
 use denote.Enum.Bare.{same_false}
 use Rattle.std.proofs.Common.{Some, None, Ok, inr, refl, sym}
-use Rattle.mr_talk.specs.contracts.turn.Turn.{the_type}
-use Rattle.mr_talk.specs.declared.turn.Turn.TheVariants.{CallerTells}
-use Rattle.mr_talk.specs.Host.{Closes}
+use Rattle.mr_talk.proofs.Names.{CallerTells, Closes, the_type}
 use Rattle.mr_talk.proofs.HostLaws.{acts_one, refused_at}
 use Rattle.mr_talk.proofs.meeting.last_speech.Goals as goal
 

@@ -1,7 +1,5 @@
 use Rattle.std.proofs.Common.{ℕ, List, ◌++◌, ap, ◌∙◌}
-use Rattle.std.specs.List.{flat_map}
-use Rattle.mr_talk.specs.Packed.{token_bytes}
-use Rattle.mr_talk.specs.inner.Packed.{rest_tokens}
+use Rattle.mr_talk.proofs.Names.{flat_map, rest_tokens, token_bytes}
 use Rattle.mr_talk.proofs.PackedLaws.{plain_tells}
 use Rattle.mr_talk.proofs.packing.plain_frame.Goals as goal
 

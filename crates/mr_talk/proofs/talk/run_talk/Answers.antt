@@ -1,11 +1,7 @@
 -- Each iteration adds the message that was said or heard, and what was asked of the host for it.
 use Rattle.std.proofs.Common.{◌≡◌, Some, [], inr, arith, refl, sym, ap, ◌∙◌}
-use Rattle.std.proofs.KnownBytes.{Appends-nil, Consumes-nil}
-use Rattle.mr_talk.specs.declared.turn.Turn.TheVariants.{Failed}
-use Rattle.mr_talk.specs.declared.turn.Turn.{Turn}
-use Rattle.mr_talk.specs.Turns.{sender_of}
+use Rattle.mr_talk.proofs.Names.{Appends-nil, Consumes-nil, Failed, Turn, other, sender_of}
 use Rattle.mr_talk.specs.Line.{ahead}
-use Rattle.mr_talk.specs.Talk.{other}
 use Rattle.mr_talk.proofs.CauseLaws.{ended_here, ended_ungiven, ended_unheard, ended_unsaid, ended_untaken, ends_whole, fails_by_fault, played_whole}
 use Rattle.mr_talk.proofs.LineLaws.{holds_on_err, if_err}
 use Rattle.mr_talk.proofs.ServedLaws.{goes_heard, goes_said, served_nothing}

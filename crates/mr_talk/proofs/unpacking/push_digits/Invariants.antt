@@ -1,6 +1,5 @@
 use Rattle.std.proofs.Common.{◌≡◌, ◌++◌, take}
-use Rattle.std.specs.List.{flat_map}
-use Rattle.mr_talk.specs.Packed.{two_digits}
+use Rattle.mr_talk.proofs.Names.{flat_map, two_digits}
 use Rattle.mr_talk.proofs.unpacking.push_digits.Given as goal
 
 abbrev pub invariant-loop-byte : goal.invariant-loop-byte

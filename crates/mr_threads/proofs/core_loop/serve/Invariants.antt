@@ -1,5 +1,4 @@
-use Rattle.mr_threads.specs.Core.{KeepsLanes}
-use Rattle.mr_threads.specs.inner.Core.{Serving}
+use Rattle.mr_threads.proofs.Names.{KeepsLanes, Serving}
 use Rattle.mr_threads.proofs.core_loop.serve.Given as goal
 
 abbrev pub invariant-loop : goal.invariant-loop

@@ -1,7 +1,5 @@
 use Rattle.std.proofs.Common.{◌≡◌, ◌++◌, List}
-use Rattle.std.specs.Prelude.{IsTrue}
-use Rattle.mr_threads.specs.Talk.{SameLanes}
-use Rattle.mr_threads.specs.inner.Talk.{HearsOut}
+use Rattle.mr_threads.proofs.Names.{HearsOut, IsTrue, SameLanes}
 use Rattle.mr_threads.proofs.talk.hear_out.Given as goal
 
 abbrev pub invariant-loop : goal.invariant-loop

@@ -1,6 +1,5 @@
 use Rattle.std.proofs.Common.{length}
-use Rattle.std.specs.List.{flat_map}
-use Rattle.mr_wire.specs.Spelling.{u16, u32, u64, filter_bytes, fragment_bytes}
+use Rattle.mr_wire.proofs.Names.{filter_bytes, flat_map, fragment_bytes, u16, u32, u64}
 use Rattle.mr_wire.proofs.PutLemmas.{five_parts}
 use Rattle.mr_wire.proofs.encoding.put_ask.Goals as goal
 

@@ -1,7 +1,5 @@
 use Rattle.std.proofs.Common.{subst}
-use Rattle.std.proofs.lemmas.List.Elements.{All-more}
-use Rattle.mr_wire.specs.Grammar.{IsFramed}
-use Rattle.mr_wire.specs.Spelling.{fragment_bytes}
+use Rattle.mr_wire.proofs.Names.{All-more, IsFramed, fragment_bytes}
 use Rattle.mr_wire.proofs.PutLemmas.{run_more}
 use Rattle.mr_wire.proofs.encoding.put_fragments.Goals as goal
 

@@ -1,5 +1,4 @@
-use Rattle.mr_wire.specs.Spelling.{descent_bytes, message_bytes}
-use Rattle.mr_wire.specs.FrameSpelling.{descent_of}
+use Rattle.mr_wire.proofs.Names.{descent_bytes, descent_of, message_bytes}
 use Rattle.mr_wire.proofs.PutLemmas.{two_parts}
 use Rattle.mr_wire.proofs.encoding.put_revision.Goals as goal
 

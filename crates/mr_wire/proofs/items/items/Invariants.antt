@@ -1,6 +1,5 @@
 use Rattle.std.proofs.Common.{◌≡◌, ◌-◌, None}
-use Rattle.mr_wire.specs.Parts.{item_at}
-use Rattle.mr_wire.specs.inner.Items.{next_item, first_item}
+use Rattle.mr_wire.proofs.Names.{first_item, item_at, next_item}
 use Rattle.mr_wire.proofs.RunLemmas.{Running}
 use Rattle.mr_wire.proofs.items.items.Given as goal
 

@@ -1,7 +1,6 @@
 use Rattle.std.proofs.Common.{◌-◌, None}
 use Rattle.std.specs.Option.{option_copied}
-use Rattle.mr_wire.specs.Parts.{label_at}
-use Rattle.mr_wire.specs.inner.Labels.{next_label}
+use Rattle.mr_wire.proofs.Names.{label_at, next_label}
 use Rattle.mr_wire.proofs.RunLemmas.{Running}
 use Rattle.mr_wire.proofs.label.label_run.Given as goal
 

@@ -1,6 +1,5 @@
 use Rattle.std.proofs.Common.{◌≡◌, ◌≤◌, ◌*◌, length, take}
-use Rattle.std.specs.List.{flat_map}
-use Rattle.mr_wire.specs.Spelling.{column_bytes}
+use Rattle.mr_wire.proofs.Names.{column_bytes, flat_map}
 use Rattle.mr_wire.proofs.lengths.columns_len.Given as goal
 
 abbrev pub invariant-loop-x : goal.invariant-loop-x

@@ -1,6 +1,5 @@
 use Rattle.std.proofs.Common.{◌≡◌, ◌≤◌, ◌*◌, length, take}
-use Rattle.std.specs.List.{flat_map}
-use Rattle.mr_wire.specs.Spelling.{label_bytes}
+use Rattle.mr_wire.proofs.Names.{flat_map, label_bytes}
 use Rattle.mr_wire.proofs.lengths.label_run_len.Given as goal
 
 abbrev pub invariant-loop-label : goal.invariant-loop-label

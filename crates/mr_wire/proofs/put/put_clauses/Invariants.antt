@@ -1,6 +1,5 @@
 use Rattle.std.proofs.Common.{◌≡◌, ◌++◌, take}
-use Rattle.std.specs.List.{flat_map}
-use Rattle.mr_wire.specs.Spelling.{clause_bytes}
+use Rattle.mr_wire.proofs.Names.{clause_bytes, flat_map}
 use Rattle.mr_wire.proofs.put.put_clauses.Given as goal
 
 abbrev pub invariant-loop-clause : goal.invariant-loop-clause

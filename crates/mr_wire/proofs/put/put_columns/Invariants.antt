@@ -1,6 +1,5 @@
 use Rattle.std.proofs.Common.{◌≡◌, ◌++◌, take}
-use Rattle.std.specs.List.{flat_map}
-use Rattle.mr_wire.specs.Spelling.{column_bytes}
+use Rattle.mr_wire.proofs.Names.{column_bytes, flat_map}
 use Rattle.mr_wire.proofs.put.put_columns.Given as goal
 
 abbrev pub invariant-loop-x : goal.invariant-loop-x

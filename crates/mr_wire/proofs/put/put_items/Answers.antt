@@ -1,7 +1,5 @@
 use Rattle.std.proofs.Common.{subst, ◌∙◌}
-use Rattle.std.proofs.lemmas.List.Elements.{All-more}
-use Rattle.mr_wire.specs.Grammar.{IsItem}
-use Rattle.mr_wire.specs.Spelling.{name_bytes}
+use Rattle.mr_wire.proofs.Names.{All-more, IsItem, name_bytes}
 use Rattle.mr_wire.proofs.PutLemmas.{run_more}
 use Rattle.mr_wire.proofs.put.put_items.Goals as goal
 

@@ -1,6 +1,5 @@
 use Rattle.std.proofs.Common.{◌≡◌, ◌++◌, take}
-use Rattle.std.specs.List.{flat_map}
-use Rattle.mr_wire.specs.Spelling.{label_bytes}
+use Rattle.mr_wire.proofs.Names.{flat_map, label_bytes}
 use Rattle.mr_wire.proofs.put.put_label_run.Given as goal
 
 abbrev pub invariant-loop-label : goal.invariant-loop-label

@@ -1,6 +1,5 @@
 use Rattle.std.proofs.Common.{◌-◌}
-use Rattle.mr_wire.specs.Parts.{column_at}
-use Rattle.mr_wire.specs.inner.Watch.{AreIn}
+use Rattle.mr_wire.proofs.Names.{AreIn, column_at}
 use Rattle.mr_wire.proofs.RunLemmas.{Running}
 use Rattle.mr_wire.proofs.PartLaws.{after_column}
 use Rattle.mr_wire.proofs.vector.columns.Given as goal

@@ -1,6 +1,5 @@
 use Rattle.std.proofs.Common.{◌+◌, ◌-◌}
-use Rattle.mr_wire.specs.Parts.{hole_at}
-use Rattle.mr_wire.specs.inner.Watch.{AreSeen}
+use Rattle.mr_wire.proofs.Names.{AreSeen, hole_at}
 use Rattle.mr_wire.proofs.RunLemmas.{Running}
 use Rattle.mr_wire.proofs.vector.holes.Given as goal
 

@@ -1,7 +1,5 @@
 use Rattle.std.proofs.Common.{arith, ap, ◌≡◌, ◌+◌, ◌-◌, ◌<◌, ◌≤◌, List, [], ◌∷◌, ◌++◌, length, length-append}
-use Rattle.mr_concise.specs.declared.column.Hole.{Hole}
-use Rattle.mr_concise.specs.Column.{gap}
-use Rattle.mr_concise.specs.declared.column.TheConstants.{MAX_HOLES}
+use Rattle.mr_concise.proofs.Names.{Hole, MAX_HOLES, gap}
 use Rattle.mr_concise.proofs.InsertLemmas.{gap-one, gap-none}
 use Rattle.mr_concise.proofs.AppendLemmas.{IsColumn-appended}
 use Rattle.mr_concise.proofs.column.Column.append.Goals as goal

@@ -1,6 +1,5 @@
 use Rattle.std.proofs.Common.{inl, inr, ◌⊎◌, ◌≡◌, ◌≤◌, arith, [], ◌∷◌, length-append, ap}
-use Rattle.std.proofs.lemmas.Bool.{cases_lt}
-use Rattle.mr_concise.specs.Column.{Extent, IsColumn}
+use Rattle.mr_concise.proofs.Names.{Extent, IsColumn, cases_lt}
 use Rattle.mr_concise.proofs.MergeLemmas.{has_one, Merged-begin, Merged-pass, Merged-push, Merged-end, IsStep, IsStep-of}
 use Rattle.mr_concise.proofs.ManyLemmas.{Merged-many}
 use Rattle.mr_concise.proofs.column_ref.ColumnRef.merged_with_lower.Goals as goal

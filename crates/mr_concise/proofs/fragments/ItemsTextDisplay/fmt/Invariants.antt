@@ -1,7 +1,5 @@
 use Rattle.std.proofs.Common.{take, ◌∷◌}
-use Rattle.std.specs.List.{flat_map}
-use Rattle.std.specs.Fmt.{HasWritten, IsPlainFormatter}
-use Rattle.mr_version.specs.Name.{name_text}
+use Rattle.mr_concise.proofs.Names.{HasWritten, IsPlainFormatter, flat_map, name_text}
 use Rattle.mr_concise.proofs.fragments.ItemsTextDisplay.fmt.Given as goal
 
 -- the items so far are written, each after a comma

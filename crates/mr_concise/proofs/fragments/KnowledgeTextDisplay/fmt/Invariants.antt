@@ -1,7 +1,5 @@
 use Rattle.std.proofs.Common.{take, ◌∷◌}
-use Rattle.std.specs.List.{flat_map}
-use Rattle.std.specs.Fmt.{HasWritten, IsPlainFormatter}
-use Rattle.mr_concise.specs.Fragments.{fragment_text}
+use Rattle.mr_concise.proofs.Names.{HasWritten, IsPlainFormatter, flat_map, fragment_text}
 use Rattle.mr_concise.proofs.fragments.KnowledgeTextDisplay.fmt.Given as goal
 
 -- the fragments so far are written, each after a semicolon and a space

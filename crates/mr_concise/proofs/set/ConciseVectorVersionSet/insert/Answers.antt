@@ -1,6 +1,5 @@
 use Rattle.std.proofs.Common.{◌∙◌, ap}
-use Rattle.std.proofs.lemmas.Result.{on_ok_weaker}
-use Rattle.mr_concise.specs.Vector.{vector_has}
+use Rattle.mr_concise.proofs.Names.{on_ok_weaker, vector_has}
 use Rattle.mr_concise.proofs.VectorInsertLemmas.{inserted-vector, inserted-means, too_many-from_one, one-from_too_many}
 use Rattle.mr_concise.proofs.set.ConciseVectorVersionSet.insert.Goals as goal
 

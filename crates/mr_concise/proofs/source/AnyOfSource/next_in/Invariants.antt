@@ -1,8 +1,5 @@
 use Rattle.std.proofs.Common.{take, ◌≤◌}
-use Rattle.std.specs.Prelude.{IfSome}
-use Rattle.mr_forms.specs.Runs.{of_author}
-use Rattle.mr_version.specs.declared.version.TheConstants.{MAX_COUNTER}
-use Rattle.mr_concise.specs.AnyOf.{in_any}
+use Rattle.mr_concise.proofs.Names.{IfSome, MAX_COUNTER, in_any, of_author}
 use Rattle.mr_concise.proofs.AnyOfLemmas.{NextIn}
 use Rattle.mr_concise.proofs.source.AnyOfSource.next_in.Given as goal
 

@@ -1,9 +1,7 @@
 use Rattle.std.proofs.Common.{◌-◌}
-use Rattle.mr_forms.specs.Runs.{of_author}
-use Rattle.mr_concise.specs.AnyOf.{in_any}
+use Rattle.mr_concise.proofs.Names.{COUNTERS_END, in_any, of_author}
 use Rattle.mr_concise.proofs.AnyOfLemmas.{IsAllTo}
 use Rattle.mr_concise.proofs.source.AnyOfSource.next_out.Given as goal
-use Rattle.mr_concise.specs.declared.column.TheConstants.{COUNTERS_END}
 
 abbrev pub invariant-loop-at : goal.invariant-loop-at
 invariant-loop-at g l = IsAllTo (of_author (in_any g.S.Source.has l.self.sources.now) l.author) l.from l.at

@@ -1,8 +1,7 @@
 use Rattle.std.proofs.Common.{◌-◌}
-use Rattle.mr_forms.specs.Runs.{of_author}
+use Rattle.mr_concise.proofs.Names.{COUNTERS_END, of_author}
 use Rattle.mr_concise.proofs.AnyOfLemmas.{IsPastFirst}
 use Rattle.mr_concise.proofs.source.Tuple2Source.next_out.Given as goal
-use Rattle.mr_concise.specs.declared.column.TheConstants.{COUNTERS_END}
 
 abbrev pub invariant-loop-at : goal.invariant-loop-at
 invariant-loop-at g l = IsPastFirst (of_author (g.A.Source.has l.self.0) l.author) (of_author (g.B.Source.has l.self.1) l.author) l.from l.at

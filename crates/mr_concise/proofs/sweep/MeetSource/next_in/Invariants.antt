@@ -1,9 +1,8 @@
 use Rattle.std.proofs.Common.{◌-◌}
-use Rattle.mr_forms.specs.Runs.{of_author}
+use Rattle.mr_concise.proofs.Names.{COUNTERS_END, of_author}
 use Rattle.mr_concise.specs.inner.Meet.{meet_has}
 use Rattle.mr_concise.proofs.MeetLemmas.{NoneTo}
 use Rattle.mr_concise.proofs.sweep.MeetSource.next_in.Given as goal
-use Rattle.mr_concise.specs.declared.column.TheConstants.{COUNTERS_END}
 
 abbrev pub invariant-loop-there : goal.invariant-loop-there
 invariant-loop-there l = NoneTo (of_author (meet_has l.self) l.fn.author) l.from l.at

@@ -1,6 +1,5 @@
 use Rattle.std.proofs.Common.{true, refl}
-use Rattle.std.proofs.lemmas.Grind.{put_two}
-use Rattle.mr_concise.specs.Text.{hole_text}
+use Rattle.mr_concise.proofs.Names.{hole_text, put_two}
 use Rattle.mr_concise.proofs.TextLemmas.{flat_map-at}
 use Rattle.mr_concise.proofs.vector.AuthorColumnDisplay.fmt.Goals as goal
 

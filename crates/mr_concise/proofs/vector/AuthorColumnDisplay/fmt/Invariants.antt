@@ -1,7 +1,5 @@
 use Rattle.std.proofs.Common.{take}
-use Rattle.std.specs.List.{flat_map}
-use Rattle.std.specs.Fmt.{HasWritten, IsPlainFormatter}
-use Rattle.mr_concise.specs.Text.{hole_text}
+use Rattle.mr_concise.proofs.Names.{HasWritten, IsPlainFormatter, flat_map, hole_text}
 use Rattle.mr_concise.proofs.vector.AuthorColumnDisplay.fmt.Given as goal
 
 -- the holes so far are written

@@ -1,6 +1,5 @@
 use Rattle.std.proofs.Common.{arith, ◌∙◌, ap, ◌≡◌}
-use Rattle.mr_concise.specs.Column.{Extent}
-use Rattle.mr_concise.specs.Vector.{column_of}
+use Rattle.mr_concise.proofs.Names.{Extent, column_of}
 use Rattle.mr_concise.proofs.LastLemmas.{bound-is_last}
 use Rattle.mr_concise.proofs.vector.ConciseVector.last.Goals as goal
 

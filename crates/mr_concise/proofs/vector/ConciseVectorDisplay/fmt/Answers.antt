@@ -1,6 +1,5 @@
 use Rattle.std.proofs.Common.{true, ◌∷◌, refl}
-use Rattle.std.proofs.lemmas.Grind.{put_two}
-use Rattle.mr_concise.specs.Text.{column_text}
+use Rattle.mr_concise.proofs.Names.{column_text, put_two}
 use Rattle.mr_concise.proofs.TextLemmas.{flat_map-here}
 use Rattle.mr_concise.proofs.vector.ConciseVectorDisplay.fmt.Goals as goal
 

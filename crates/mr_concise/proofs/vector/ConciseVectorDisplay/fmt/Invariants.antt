@@ -1,7 +1,5 @@
 use Rattle.std.proofs.Common.{take, ◌∷◌}
-use Rattle.std.specs.List.{flat_map}
-use Rattle.std.specs.Fmt.{HasWritten, IsPlainFormatter}
-use Rattle.mr_concise.specs.Text.{column_text}
+use Rattle.mr_concise.proofs.Names.{HasWritten, IsPlainFormatter, column_text, flat_map}
 use Rattle.mr_concise.proofs.vector.ConciseVectorDisplay.fmt.Given as goal
 
 -- the columns so far are written, each after a comma

@@ -1,6 +1,5 @@
 use Rattle.std.proofs.Common.{◌-◌, ℕ}
-use Rattle.mr_wire.specs.Parts.{name_at}
-use Rattle.mr_wire.proofs.RunLemmas.{Running}
+use Rattle.mr_entry.proofs.Names.{Running, name_at}
 use Rattle.mr_entry.proofs.EventLaws.{same_place}
 use Rattle.mr_entry.proofs.event.bases.version_run.Given as goal
 

@@ -1,6 +1,5 @@
 use Rattle.std.proofs.Common.{arith, rules}
-use Rattle.std.proofs.lemmas.List.{length-map}
-use Rattle.mr_filter.specs.inner.Written.{lent_texts}
+use Rattle.mr_filter.proofs.Names.{length-map, lent_texts}
 use Rattle.mr_filter.proofs.DraftLemmas.{with_wanted, with_barred, with_flag_on, with_flag_off, with_day, wanted_too_many, barred_too_many, IfErr-any}
 use Rattle.mr_filter.proofs.draft.Draft.add.Goals as goal
 

@@ -1,6 +1,5 @@
 use Rattle.std.proofs.Common.{◌≤◌, length, arith, inr}
-use Rattle.mr_filter.specs.declared.fault.FilterFault.TheVariants.{BadFilter, TooManyClauses, TooManyLabels}
-use Rattle.mr_filter.specs.Grammar.{clauses_of}
+use Rattle.mr_filter.proofs.Names.{BadFilter, TooManyClauses, TooManyLabels, clauses_of}
 use Rattle.mr_filter.proofs.Reading.{IsFilter-read}
 use Rattle.mr_filter.proofs.UniqueLemmas.{Reads-fault, Reads-unique}
 use Rattle.mr_filter.proofs.filter.Filter.read.Goals as goal

@@ -1,7 +1,5 @@
 use Rattle.std.proofs.Common.{◌≡◌, ◌∙◌, ℕ, List, string_bytes}
-use Rattle.std.proofs.lemmas.Result.{IfOk-weaker}
-use Rattle.mr_filter.specs.Grammar.{Reads}
-use Rattle.mr_filter.specs.Text.{IsFilterText}
+use Rattle.mr_filter.proofs.Names.{IfOk-weaker, IsFilterText, Reads}
 use Rattle.mr_filter.proofs.ReadsLemmas.{Reads-text}
 use Rattle.mr_filter.proofs.WrittenLemmas.{filter_written}
 use Rattle.mr_filter.proofs.filter.Filter.text.Goals as goal

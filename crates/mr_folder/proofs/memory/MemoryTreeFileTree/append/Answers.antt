@@ -1,6 +1,5 @@
 use Rattle.std.proofs.Common.{◌≡◌, ◌++◌, ℕ, List, [], Some, refl, ap, ◌∙◌, unwrap_or}
-use Rattle.mr_folder.specs.Memory.{Puts, steps_of, tree_of}
-use Rattle.mr_folder.specs.Tree.{OnlyAt}
+use Rattle.mr_folder.proofs.Names.{OnlyAt, Puts, steps_of, tree_of}
 use Rattle.mr_folder.proofs.MemoryLemmas.{write_ok, write_files, write_crash, write_time, put_only, put_there}
 use Rattle.mr_folder.proofs.memory.MemoryTreeFileTree.append.Goals as goal
 

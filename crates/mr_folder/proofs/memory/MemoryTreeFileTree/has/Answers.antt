@@ -1,6 +1,5 @@
 use Rattle.std.proofs.Common.{ap, ◌∙◌}
-use Rattle.std.specs.Prelude.{is_some}
-use Rattle.mr_folder.specs.Memory.{tree_of}
+use Rattle.mr_folder.proofs.Names.{is_some, tree_of}
 use Rattle.mr_folder.proofs.MemoryLemmas.{untouched}
 use Rattle.mr_folder.proofs.memory.MemoryTreeFileTree.has.Goals as goal
 

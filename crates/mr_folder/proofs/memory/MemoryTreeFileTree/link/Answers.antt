@@ -1,6 +1,5 @@
 use Rattle.std.proofs.Common.{◌≡◌}
-use Rattle.mr_folder.specs.Memory.{Links, steps_of, tree_of}
-use Rattle.mr_folder.specs.Tree.{MayLink}
+use Rattle.mr_folder.proofs.Names.{Links, MayLink, steps_of, tree_of}
 use Rattle.mr_folder.proofs.ShowLemmas.{link_none}
 use Rattle.mr_folder.proofs.MemoryLemmas.{write_ok, write_crash, write_time, link_files, linked}
 use Rattle.mr_folder.proofs.memory.MemoryTreeFileTree.link.Goals as goal

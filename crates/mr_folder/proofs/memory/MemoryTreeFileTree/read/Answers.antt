@@ -1,6 +1,5 @@
 use Rattle.std.proofs.Common.{◌≡◌, subst}
-use Rattle.std.specs.Prelude.{IfOk, option_map}
-use Rattle.mr_folder.specs.Memory.{tree_of}
+use Rattle.mr_folder.proofs.Names.{IfOk, option_map, tree_of}
 use Rattle.mr_folder.proofs.MemoryLemmas.{untouched}
 use Rattle.mr_folder.proofs.memory.MemoryTreeFileTree.read.Goals as goal
 

@@ -1,6 +1,5 @@
 use Rattle.std.proofs.Common.{◌≡◌, None}
-use Rattle.mr_folder.specs.Memory.{Goes, steps_of, tree_of}
-use Rattle.mr_folder.specs.Tree.{MayGo}
+use Rattle.mr_folder.proofs.Names.{Goes, MayGo, steps_of, tree_of}
 use Rattle.mr_folder.proofs.ShowLemmas.{go_none}
 use Rattle.mr_folder.proofs.MemoryLemmas.{write_ok, write_files, write_crash, write_time, go_does, gone}
 use Rattle.mr_folder.proofs.memory.MemoryTreeFileTree.remove.Goals as goal

@@ -1,6 +1,5 @@
 use Rattle.std.proofs.Common.{◌≡◌, None}
-use Rattle.mr_folder.specs.Memory.{Moves, steps_of, tree_of}
-use Rattle.mr_folder.specs.Tree.{MayMove}
+use Rattle.mr_folder.proofs.Names.{MayMove, Moves, steps_of, tree_of}
 use Rattle.mr_folder.proofs.ShowLemmas.{move_none}
 use Rattle.mr_folder.proofs.MemoryLemmas.{write_ok, write_files, write_crash, write_time, move_does, moved, moved_away}
 use Rattle.mr_folder.proofs.memory.MemoryTreeFileTree.rename.Goals as goal

@@ -1,7 +1,5 @@
 use Rattle.std.proofs.Common.{subst, map, string_bytes}
-use Rattle.std.specs.Prelude.{IfOk}
-use Rattle.mr_folder.specs.Memory.{steps_of, tree_of}
-use Rattle.mr_folder.specs.Names.{TellsDigests}
+use Rattle.mr_folder.proofs.Names.{IfOk, TellsDigests, steps_of, tree_of}
 use Rattle.mr_folder.proofs.MemoryLemmas.{untouched}
 use Rattle.mr_folder.proofs.MemoryNames.{names_ok}
 use Rattle.mr_folder.proofs.memory.MemoryTreeFileTree.stored_names.Goals as goal

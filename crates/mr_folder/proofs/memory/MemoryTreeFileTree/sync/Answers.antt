@@ -1,5 +1,4 @@
-use Rattle.mr_folder.specs.Memory.{Syncs, steps_of, tree_of, MayLeave}
-use Rattle.mr_folder.specs.Tree.{NoneOr}
+use Rattle.mr_folder.proofs.Names.{MayLeave, NoneOr, Syncs, steps_of, tree_of}
 use Rattle.mr_folder.proofs.MemoryLemmas.{write_ok, sync_untouched}
 use Rattle.mr_folder.proofs.memory.MemoryTreeFileTree.sync.Goals as goal
 

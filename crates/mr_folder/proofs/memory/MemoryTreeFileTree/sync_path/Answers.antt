@@ -1,5 +1,4 @@
-use Rattle.mr_folder.specs.Memory.{SyncsPath, steps_of, tree_of, MayLeave}
-use Rattle.mr_folder.specs.Tree.{HasSame}
+use Rattle.mr_folder.proofs.Names.{HasSame, MayLeave, SyncsPath, steps_of, tree_of}
 use Rattle.mr_folder.proofs.MemoryLemmas.{write_ok, sync_path_untouched}
 use Rattle.mr_folder.proofs.memory.MemoryTreeFileTree.sync_path.Goals as goal
 

@@ -1,6 +1,5 @@
 use Rattle.std.proofs.Common.{sym, ap, ◌∙◌, subst, refl}
-use Rattle.std.proofs.lemmas.Bool.{false≢true}
-use Rattle.mr_folder.specs.Inside.{IsInside, mail_path, first_part}
+use Rattle.mr_folder.proofs.Names.{IsInside, false≢true, first_part, mail_path}
 use Rattle.mr_folder.proofs.PartLemmas.{part_from_test, test_from_part, mail_inside, mail_not_own}
 use Rattle.mr_folder.proofs.path.FilePath.mail.Goals as goal
 

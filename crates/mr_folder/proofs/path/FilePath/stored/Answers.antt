@@ -1,6 +1,5 @@
 use Rattle.std.proofs.Common.{◌≡◌, ◌<◌, ℕ, sym, subst, string_bytes, rules, arith}
-use Rattle.std.specs.Prelude.{slice_index}
-use Rattle.mr_folder.specs.Inside.{IsInside, stored_path}
+use Rattle.mr_folder.proofs.Names.{IsInside, slice_index, stored_path}
 use Rattle.mr_folder.proofs.InsideLemmas.{stored_inside}
 use Rattle.mr_folder.proofs.path.FilePath.stored.Goals as goal
 

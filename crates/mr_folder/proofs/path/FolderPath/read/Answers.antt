@@ -1,6 +1,5 @@
 use Rattle.std.proofs.Common.{refl, sym, ◌∙◌, subst}
-use Rattle.std.proofs.lemmas.Bool.{false≢true}
-use Rattle.mr_folder.specs.Inside.{IsFolder}
+use Rattle.mr_folder.proofs.Names.{IsFolder, false≢true}
 use Rattle.mr_folder.proofs.PartLemmas.{folder_from_test, test_from_folder}
 use Rattle.mr_folder.proofs.path.FolderPath.read.Goals as goal
 

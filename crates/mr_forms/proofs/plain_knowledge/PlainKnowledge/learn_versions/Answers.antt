@@ -1,8 +1,5 @@
 use Rattle.std.proofs.Common.{◌≡◌, ◌∙◌, ◌&&◌, ◌||◌, ap, sym, take, take_all, refl}
-use Rattle.std.specs.List.{list_any}
-use Rattle.mr_version.specs.Name.{name_eq}
-use Rattle.mr_forms.specs.Sets.{is_listed}
-use Rattle.mr_forms.specs.PlainPair.{pair, has_pair}
+use Rattle.mr_forms.proofs.Names.{has_pair, is_listed, list_any, name_eq, pair}
 use Rattle.mr_forms.proofs.ListLemmas.{list_any-here}
 use Rattle.mr_forms.proofs.PairLemmas.{joined_pairs, one_more_item}
 use Rattle.mr_forms.proofs.plain_knowledge.PlainKnowledge.learn_versions.Goals as goal

@@ -1,8 +1,5 @@
 use Rattle.std.proofs.Common.{◌≡◌, ◌&&◌, ◌||◌, take}
-use Rattle.std.specs.List.{list_any}
-use Rattle.mr_version.specs.Name.{Name, name_eq}
-use Rattle.mr_forms.specs.Sets.{is_listed}
-use Rattle.mr_forms.specs.PlainPair.{pair, has_pair}
+use Rattle.mr_forms.proofs.Names.{Name, has_pair, is_listed, list_any, name_eq, pair}
 use Rattle.mr_forms.proofs.plain_knowledge.PlainKnowledge.learn_versions.Given as goal
 
 -- with what is known, the pairs of the items up to here are all listed

@@ -1,13 +1,6 @@
 use Rattle.std.proofs.Common.{◌≡◌, ◌∙◌, true, false, ◌||◌, ◌&&◌, not, [], All, ap, sym, get_or}
-use Rattle.std.specs.Map.Iter.{deref}
-use Rattle.std.specs.Ordering.{eq_by_cmp}
-use Rattle.std.proofs.lemmas.Map.Iter.{rest_more, rest_all}
-use Rattle.std.proofs.lemmas.Map.Keys.{sorted_tail}
-use Rattle.std.proofs.lemmas.List.Elements.{All-head, All-tail}
-use Rattle.mr_forms.specs.Sets.{is_listed}
-use Rattle.mr_forms.specs.PlainPair.{pair, pair_cmp, has_pair}
-use Rattle.mr_forms.specs.Plain.{beyond_all, had_by_item}
-use Rattle.mr_forms.specs.inner.PlainSteps.{EndsBy}
+use Rattle.mr_forms.proofs.Names.{All-head, All-tail, EndsBy, beyond_all, deref, eq_by_cmp, had_by_item, has_pair, is_listed, pair, pair_cmp, rest_all}
+use Rattle.mr_forms.proofs.Names.{rest_more, sorted_tail}
 use Rattle.mr_forms.proofs.SetLemmas.{or_nothing}
 use Rattle.mr_forms.proofs.PairLemmas.{left_out, of_same_version, taken_in, with_beyond}
 use Rattle.mr_forms.proofs.FragmentLemmas.{all_covered-parts, ends_by-rest}

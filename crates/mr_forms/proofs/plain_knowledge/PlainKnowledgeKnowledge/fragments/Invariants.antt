@@ -1,10 +1,6 @@
 use Rattle.std.proofs.Common.{◌≡◌, ◌||◌, ◌&&◌, not, All}
-use Rattle.std.specs.List.Sorted.{IsStrictlySortedBy}
-use Rattle.mr_version.specs.Name.{Name}
-use Rattle.mr_forms.specs.Sets.{IsSame, is_listed}
-use Rattle.mr_forms.specs.PlainPair.{pair, pair_cmp, has_pair}
-use Rattle.mr_forms.specs.Plain.{IsOneByOne, beyond_all, had_for_all, had_by_item}
-use Rattle.mr_forms.specs.inner.PlainSteps.{EndsBy}
+use Rattle.mr_forms.proofs.Names.{EndsBy, IsOneByOne, IsSame, IsStrictlySortedBy, Name, beyond_all, had_by_item, had_for_all, has_pair, is_listed, pair}
+use Rattle.mr_forms.proofs.Names.{pair_cmp}
 use Rattle.mr_forms.proofs.plain_knowledge.PlainKnowledgeKnowledge.fragments.Given as goal
 
 -- The fragments so far and those of the pairs left whose versions are not known for all are all that is known, and the

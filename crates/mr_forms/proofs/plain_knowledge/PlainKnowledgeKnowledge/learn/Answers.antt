@@ -1,5 +1,4 @@
-use Rattle.mr_forms.specs.Sets.{is_listed}
-use Rattle.mr_forms.specs.PlainPair.{pair, has_pair}
+use Rattle.mr_forms.proofs.Names.{has_pair, is_listed, pair}
 use Rattle.mr_forms.proofs.PairLemmas.{learned_pair}
 use Rattle.mr_forms.proofs.plain_knowledge.PlainKnowledgeKnowledge.learn.Goals as goal
 

@@ -1,9 +1,6 @@
 use Rattle.std.proofs.Common.{false, ◌||◌, ◌&&◌, ◌∙◌, ◌∷◌, [], ap}
-use Rattle.std.proofs.lemmas.List.Folds.{list_any-append}
+use Rattle.mr_forms.proofs.Names.{is_listed, list_any-append, name_eq, plain_known}
 use Rattle.std.proofs.lemmas.Result.{on_ok_weaker}
-use Rattle.mr_version.specs.Name.{name_eq}
-use Rattle.mr_forms.specs.Sets.{is_listed}
-use Rattle.mr_forms.specs.Plain.{plain_known}
 use Rattle.mr_forms.proofs.PairLemmas.{listed_with}
 use Rattle.mr_forms.proofs.SetLemmas.{name_eq-symmetric}
 use Rattle.mr_forms.proofs.plain_knowledge.PlainKnowledgeKnowledge.learn_with.Goals as goal

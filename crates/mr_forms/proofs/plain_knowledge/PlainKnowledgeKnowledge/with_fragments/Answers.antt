@@ -1,8 +1,5 @@
 use Rattle.std.proofs.Common.{List, sym, ap, subst, ◌∙◌, arith, take}
-use Rattle.std.proofs.lemmas.List.{take_all}
-use Rattle.mr_forms.specs.declared.fragment.Fragment.{Fragment}
-use Rattle.mr_forms.specs.Known.{AreSame}
-use Rattle.mr_forms.specs.Plain.{plain_form, plain_known}
+use Rattle.mr_forms.proofs.Names.{AreSame, Fragment, plain_form, plain_known, take_all}
 use Rattle.mr_forms.proofs.MergedLemmas.{after_all, after_all-same, merged_next, take_next}
 use Rattle.mr_forms.proofs.plain_knowledge.PlainKnowledgeKnowledge.with_fragments.Goals as goal
 

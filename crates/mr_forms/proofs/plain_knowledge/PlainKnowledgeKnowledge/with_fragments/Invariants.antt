@@ -1,6 +1,5 @@
 use Rattle.std.proofs.Common.{take}
-use Rattle.mr_forms.specs.Known.{AreSame}
-use Rattle.mr_forms.specs.Plain.{plain_known}
+use Rattle.mr_forms.proofs.Names.{AreSame, plain_known}
 use Rattle.mr_forms.proofs.MergedLemmas.{after_all}
 use Rattle.mr_forms.proofs.plain_knowledge.PlainKnowledgeKnowledge.with_fragments.Given as goal
 

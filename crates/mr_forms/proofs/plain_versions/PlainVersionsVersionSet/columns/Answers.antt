@@ -1,12 +1,5 @@
 use Rattle.std.proofs.Common.{All}
-use Rattle.std.specs.Map.Iter.{deref}
-use Rattle.std.proofs.lemmas.Map.Iter.{rest_more}
-use Rattle.std.proofs.lemmas.Map.Keys.{sorted_tail}
-use Rattle.std.proofs.lemmas.List.Elements.{All-head}
-use Rattle.mr_version.specs.Name.{name_cmp, name_eq}
-use Rattle.mr_forms.specs.Sets.{is_listed}
-use Rattle.mr_forms.specs.Runs.{in_runs}
-use Rattle.mr_forms.specs.inner.Columns.{EndsBelow}
+use Rattle.mr_forms.proofs.Names.{All-head, EndsBelow, deref, in_runs, is_listed, name_cmp, name_eq, rest_more, sorted_tail}
 use Rattle.mr_forms.proofs.SetLemmas.{passes_on, name_eq-symmetric}
 use Rattle.mr_forms.proofs.ColumnLemmas.{ends_below-rest}
 use Rattle.mr_forms.proofs.plain_versions.PlainVersionsVersionSet.columns.Goals as goal

@@ -1,9 +1,5 @@
 use Rattle.std.proofs.Common.{◌≡◌, ◌||◌, All, AllPairs}
-use Rattle.std.specs.List.Sorted.{IsStrictlySortedBy}
-use Rattle.mr_version.specs.Name.{Name, name_cmp}
-use Rattle.mr_forms.specs.Sets.{is_listed}
-use Rattle.mr_forms.specs.Runs.{in_runs, StandsBefore}
-use Rattle.mr_forms.specs.inner.Columns.{EndsBelow}
+use Rattle.mr_forms.proofs.Names.{EndsBelow, IsStrictlySortedBy, Name, StandsBefore, in_runs, is_listed, name_cmp}
 use Rattle.mr_forms.proofs.plain_versions.PlainVersionsVersionSet.columns.Given as goal
 
 -- the runs so far and what is left are all, and the runs end below what is left

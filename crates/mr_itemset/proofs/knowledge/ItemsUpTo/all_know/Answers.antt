@@ -1,7 +1,6 @@
 use Rattle.std.proofs.Common.{◌≡◌, true, false, Bool, ◌||◌, List, sym, ap, ◌∙◌}
 use Rattle.std.proofs.lemmas.Bool.{or_left}
-use Rattle.mr_concise.specs.declared.vector.AuthorColumn.{AuthorColumn}
-use Rattle.mr_concise.specs.Vector.{vector_has}
+use Rattle.mr_itemset.proofs.Names.{AuthorColumn, vector_has}
 use Rattle.mr_itemset.proofs.SparingLemmas.{all_know_by}
 use Rattle.mr_itemset.proofs.knowledge.ItemsUpTo.all_know.Goals as goal
 

@@ -1,8 +1,5 @@
 use Rattle.std.proofs.Common.{◌≡◌, ◌<◌, ◌||◌, ◌++◌, ◌∷◌, [], true, take, length, sym, ◌∙◌, ap, arith}
-use Rattle.std.specs.List.{list_any}
-use Rattle.std.proofs.lemmas.List.{take_more}
-use Rattle.mr_version.specs.Name.{Name, name_eq}
-use Rattle.mr_itemset.specs.inner.Normal.{items_of}
+use Rattle.mr_itemset.proofs.Names.{Name, items_of, list_any, name_eq, take_more}
 use Rattle.mr_itemset.proofs.EachLemmas.{counts_none, counts_one, counts_known, among_first, among_listed}
 use Rattle.mr_itemset.proofs.RisingLemmas.{all_before}
 use Rattle.mr_itemset.proofs.knowledge.ItemsUpTo.count_new.Goals as goal

@@ -1,6 +1,5 @@
 use Rattle.std.proofs.Common.{sym, ◌∙◌, inl, inr}
-use Rattle.std.proofs.lemmas.Bool.{false≢true, cases_Bool}
-use Rattle.mr_concise.specs.Vector.{vector_has}
+use Rattle.mr_itemset.proofs.Names.{cases_Bool, false≢true, vector_has}
 use Rattle.mr_itemset.proofs.SplitLemmas.{covers_yes, covers_all-from, covers_listed-from}
 use Rattle.mr_itemset.proofs.WithLemmas.{lacks-not_covers}
 use Rattle.mr_itemset.proofs.knowledge.ItemsUpTo.covers.Goals as goal

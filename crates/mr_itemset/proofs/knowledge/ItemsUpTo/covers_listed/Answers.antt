@@ -1,9 +1,5 @@
 use Rattle.std.proofs.Common.{map, ap, ◌∙◌}
-use Rattle.std.proofs.lemmas.List.Elements.{All-push, All-contains}
-use Rattle.mr_forms.specs.Sets.{Covers}
-use Rattle.mr_concise.specs.Vector.{vector_has}
-use Rattle.mr_itemset.specs.inner.Entries.{listed_of}
-use Rattle.mr_itemset.specs.Normal.{normal_known}
+use Rattle.mr_itemset.proofs.Names.{All-contains, All-push, Covers, listed_of, normal_known, vector_has}
 use Rattle.mr_itemset.proofs.WalkLemmas.{lent, items_next, items_more, items_all, Contains-middle}
 use Rattle.mr_itemset.proofs.WithLemmas.{lacks-not_covers}
 use Rattle.mr_itemset.proofs.knowledge.ItemsUpTo.covers_listed.Goals as goal

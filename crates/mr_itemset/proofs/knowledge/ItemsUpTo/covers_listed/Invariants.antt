@@ -1,7 +1,5 @@
 use Rattle.std.proofs.Common.{All, map}
-use Rattle.mr_forms.specs.Sets.{Covers}
-use Rattle.mr_concise.specs.Vector.{vector_has}
-use Rattle.mr_itemset.specs.Normal.{normal_known}
+use Rattle.mr_itemset.proofs.Names.{Covers, normal_known, vector_has}
 use Rattle.mr_itemset.proofs.WalkLemmas.{lent}
 use Rattle.mr_itemset.proofs.knowledge.ItemsUpTo.covers_listed.Given as goal
 

@@ -1,7 +1,6 @@
 use Rattle.mr_itemset.proofs.SplitLemmas.{split_at, lacks_same, covers_same}
 use Rattle.mr_forms.specs.Sets.{both}
-use Rattle.mr_concise.specs.Vector.{vector_has}
-use Rattle.mr_itemset.specs.Normal.{normal_known}
+use Rattle.mr_itemset.proofs.Names.{normal_known, vector_has}
 use Rattle.mr_itemset.proofs.knowledge.ItemsUpTo.item_lacks.Goals as goal
 
 pub returns-clause-yes : goal.returns-clause-yes

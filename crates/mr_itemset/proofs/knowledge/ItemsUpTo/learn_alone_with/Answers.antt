@@ -1,5 +1,4 @@
-use Rattle.std.proofs.lemmas.Result.{on_ok_weaker}
-use Rattle.mr_itemset.specs.Normal.{normal_known}
+use Rattle.mr_itemset.proofs.Names.{normal_known, on_ok_weaker}
 use Rattle.mr_itemset.proofs.AloneLemmas.{alone_known, alone_holes, alone_items, alone_refused}
 use Rattle.mr_itemset.proofs.knowledge.ItemsUpTo.learn_alone_with.Goals as goal
 

@@ -1,6 +1,5 @@
-use Rattle.mr_forms.specs.Known.{HasValue}
-use Rattle.mr_itemset.specs.Normal.{normal_known}
-use Rattle.mr_itemset.specs.ItemForm.{items_form, with_all}
+use Rattle.mr_itemset.proofs.Names.{HasValue, items_form, normal_known}
+use Rattle.mr_itemset.specs.ItemForm.{with_all}
 use Rattle.mr_itemset.proofs.LimitLemmas.{lists_few}
 use Rattle.mr_itemset.proofs.MergingLemmas.{all_have}
 use Rattle.mr_itemset.proofs.RefusalLemmas.{succeeds, once_holes, once_items}

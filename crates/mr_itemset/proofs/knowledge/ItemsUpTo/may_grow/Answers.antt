@@ -1,8 +1,6 @@
 use Rattle.std.proofs.Common.{refl, sym, ◌∙◌, inl, inr}
-use Rattle.std.proofs.lemmas.Bool.{false≢true}
-use Rattle.mr_forms.specs.Known.{HasValue}
-use Rattle.mr_itemset.specs.Normal.{normal_known}
-use Rattle.mr_itemset.specs.ItemForm.{items_form, HasHoleyItem, with_all}
+use Rattle.mr_itemset.proofs.Names.{HasHoleyItem, HasValue, false≢true, items_form, normal_known}
+use Rattle.mr_itemset.specs.ItemForm.{with_all}
 use Rattle.mr_itemset.proofs.LimitLemmas.{lists_few}
 use Rattle.mr_itemset.proofs.RefusalLemmas.{succeeds, refuses_otherwise, no_holes_in_turn, no_items_in_turn}
 use Rattle.mr_itemset.proofs.knowledge.ItemsUpTo.may_grow.Goals as goal

@@ -1,5 +1,4 @@
-use Rattle.mr_itemset.specs.Normal.{normal_known}
-use Rattle.mr_itemset.specs.inner.Each.{with_each}
+use Rattle.mr_itemset.proofs.Names.{normal_known, with_each}
 use Rattle.mr_itemset.proofs.RefusalLemmas.{succeeds}
 use Rattle.mr_itemset.proofs.ValueLemmas.{known_value}
 use Rattle.mr_itemset.proofs.knowledge.ItemsUpTo.may_learn_for_each.Goals as goal

@@ -1,8 +1,5 @@
 use Rattle.std.proofs.Common.{ap, sym, ◌∙◌}
-use Rattle.mr_forms.specs.Known.{Pairs}
-use Rattle.mr_itemset.specs.Normal.{normal_known}
-use Rattle.mr_itemset.specs.inner.Growth.{with_some_below}
-use Rattle.mr_concise.specs.Vector.{vector_has}
+use Rattle.mr_itemset.proofs.Names.{Pairs, normal_known, vector_has, with_some_below}
 use Rattle.mr_itemset.proofs.SplitLemmas.{all_twice}
 use Rattle.mr_itemset.proofs.knowledge.ItemsUpTo.settle.Goals as goal
 

@@ -1,7 +1,5 @@
 use Rattle.std.proofs.Common.{take}
-use Rattle.mr_forms.specs.Known.{AreSame}
-use Rattle.mr_itemset.specs.Normal.{normal_known}
-use Rattle.mr_itemset.specs.inner.Each.{with_each}
+use Rattle.mr_itemset.proofs.Names.{AreSame, normal_known, with_each}
 use Rattle.mr_itemset.proofs.knowledge.ItemsUpTo.some_lack.Given as goal
 
 -- the items so far have the set

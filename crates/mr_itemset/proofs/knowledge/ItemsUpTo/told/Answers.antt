@@ -1,13 +1,6 @@
 use Rattle.std.proofs.Common.{map, subst, lit<}
-use Rattle.std.specs.List.{AllZip}
-use Rattle.mr_forms.specs.Known.{AreSame}
-use Rattle.mr_forms.specs.Covered.{all_covered}
-use Rattle.mr_forms.specs.Parts.{part_of, ArePartsThat}
-use Rattle.mr_concise.specs.Vector.{vector_has}
-use Rattle.mr_itemset.specs.Folded.{folded}
-use Rattle.mr_itemset.specs.Normal.{Normal, normal_known}
-use Rattle.mr_itemset.specs.Shown.{shown, fragments_in}
-use Rattle.mr_itemset.specs.Told.{IsToldOf, IsSparest, IsToldPart}
+use Rattle.mr_itemset.proofs.Names.{AllZip, ArePartsThat, AreSame, IsSparest, IsToldOf, IsToldPart, Normal, all_covered, folded, fragments_in, normal_known}
+use Rattle.mr_itemset.proofs.Names.{part_of, shown, vector_has}
 use Rattle.mr_itemset.proofs.FoldedLemmas.{folded_normal, kept_fits-all, kept_fits-listed}
 use Rattle.mr_itemset.proofs.ToldParts.{told_sparest, told_fragments_known, told_fragments_items, told_fragments_parts}
 use Rattle.mr_itemset.proofs.knowledge.ItemsUpTo.told.Goals as goal

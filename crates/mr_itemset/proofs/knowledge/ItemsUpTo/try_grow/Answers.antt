@@ -1,8 +1,6 @@
 use Rattle.std.proofs.Common.{Some, refl, arith, lit<}
 use Rattle.mr_forms.specs.Sets.{both}
-use Rattle.mr_concise.specs.Vector.{vector_has, IsVectorOf}
-use Rattle.mr_itemset.specs.Folded.{IsKept, IsSparse}
-use Rattle.mr_itemset.specs.Normal.{IsNormal, vector_of}
+use Rattle.mr_itemset.proofs.Names.{IsKept, IsNormal, IsSparse, IsVectorOf, vector_has, vector_of}
 use Rattle.mr_itemset.proofs.ItemLemmas.{lacks_second}
 use Rattle.mr_itemset.proofs.AtMostLemmas.{pending_kept, few_for_all}
 use Rattle.mr_itemset.proofs.ValueLemmas.{has_learned}

@@ -1,7 +1,5 @@
 use Rattle.std.proofs.Common.{◌<◌, ◌++◌, ◌∷◌, [], take, length, sym, ◌∙◌, ap, arith}
-use Rattle.std.proofs.lemmas.List.{take_more, take_all}
-use Rattle.mr_version.specs.Name.{Name}
-use Rattle.mr_itemset.specs.Normal.{normal_known}
+use Rattle.mr_itemset.proofs.Names.{Name, normal_known, take_all, take_more}
 use Rattle.mr_itemset.proofs.EachLemmas.{each_more}
 use Rattle.mr_itemset.proofs.knowledge.ItemsUpTo.with_each.Goals as goal
 

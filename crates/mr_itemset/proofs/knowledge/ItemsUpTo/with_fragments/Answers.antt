@@ -1,11 +1,6 @@
 use Rattle.std.proofs.Common.{List, All, sym, ap, subst, ◌∙◌, arith, take}
-use Rattle.std.proofs.lemmas.List.{take_all}
-use Rattle.mr_forms.specs.declared.fragment.Fragment.{Fragment}
-use Rattle.mr_forms.specs.Known.{AreSame, HasValue}
-use Rattle.mr_forms.specs.Merged.{after_each}
-use Rattle.mr_forms.proofs.MergedLemmas.{after_all, after_all-same, merged_next, fits_next, take_next}
-use Rattle.mr_itemset.specs.Normal.{Normal, normal_known}
-use Rattle.mr_itemset.specs.ItemForm.{items_form}
+use Rattle.mr_itemset.proofs.Names.{AreSame, Fragment, HasValue, Normal, after_all, after_all-same, after_each, fits_next, items_form, merged_next}
+use Rattle.mr_itemset.proofs.Names.{normal_known, take_all, take_next}
 use Rattle.mr_forms.specs.declared.fault.FormFault.TheVariants as fault
 use Rattle.mr_itemset.proofs.MergingLemmas.{holes_at, items_at, passed_on}
 use Rattle.mr_itemset.proofs.knowledge.ItemsUpTo.with_fragments.Goals as goal

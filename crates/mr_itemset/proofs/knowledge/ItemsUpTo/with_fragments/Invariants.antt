@@ -1,9 +1,5 @@
 use Rattle.std.proofs.Common.{All, take}
-use Rattle.mr_forms.specs.Known.{AreSame, HasValue}
-use Rattle.mr_forms.specs.Merged.{after_each}
-use Rattle.mr_forms.proofs.MergedLemmas.{after_all}
-use Rattle.mr_itemset.specs.Normal.{normal_known}
-use Rattle.mr_itemset.specs.ItemForm.{items_form}
+use Rattle.mr_itemset.proofs.Names.{AreSame, HasValue, after_all, after_each, items_form, normal_known}
 use Rattle.mr_itemset.proofs.knowledge.ItemsUpTo.with_fragments.Given as goal
 
 -- the fragments so far are merged, and each of them had a value

@@ -1,10 +1,5 @@
 use Rattle.std.proofs.Common.{◌≡◌, length, take, refl, ap, sym, ◌∙◌, arith}
-use Rattle.std.proofs.Math.Seq.{take-length}
-use Rattle.std.proofs.lemmas.Bool.{false≢true}
-use Rattle.std.proofs.lemmas.List.Elements.{All-more}
-use Rattle.mr_forms.specs.Known.{with_below}
-use Rattle.mr_itemset.specs.Normal.{normal_known}
-use Rattle.mr_itemset.specs.ItemForm.{HasHoleyItem}
+use Rattle.mr_itemset.proofs.Names.{All-more, HasHoleyItem, false≢true, normal_known, take-length, with_below}
 use Rattle.mr_itemset.proofs.FoldedLemmas.{normal_few}
 use Rattle.mr_itemset.proofs.EachLemmas.{holey_each, not_holey_each}
 use Rattle.mr_itemset.proofs.knowledge.ItemsUpTo.would_be_holey_in.Goals as goal

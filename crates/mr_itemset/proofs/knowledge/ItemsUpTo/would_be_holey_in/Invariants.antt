@@ -1,7 +1,5 @@
 use Rattle.std.proofs.Common.{All, take}
-use Rattle.mr_forms.specs.Known.{with_below}
-use Rattle.mr_itemset.specs.Normal.{normal_known}
-use Rattle.mr_itemset.specs.ItemForm.{HasHoleyItem}
+use Rattle.mr_itemset.proofs.Names.{HasHoleyItem, normal_known, with_below}
 use Rattle.mr_itemset.proofs.knowledge.ItemsUpTo.would_be_holey_in.Given as goal
 
 -- none of the items so far would have too many

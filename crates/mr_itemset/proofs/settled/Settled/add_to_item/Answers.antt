@@ -1,8 +1,6 @@
 use Rattle.std.proofs.Common.{sym, ◌∙◌, lit<}
-use Rattle.std.proofs.lemmas.Bool.{false≢true}
-use Rattle.mr_forms.specs.Sets.{IsSame, both}
-use Rattle.mr_concise.specs.Vector.{vector_has}
-use Rattle.mr_itemset.specs.Normal.{vector_of}
+use Rattle.mr_itemset.proofs.Names.{IsSame, false≢true, vector_has, vector_of}
+use Rattle.mr_forms.specs.Sets.{both}
 use Rattle.mr_itemset.proofs.ItemLemmas.{item_kept, item_placed, item_normal}
 use Rattle.mr_itemset.proofs.settled.Settled.add_to_item.Goals as goal
 

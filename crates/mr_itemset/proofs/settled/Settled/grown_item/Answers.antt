@@ -1,7 +1,6 @@
 use Rattle.std.proofs.Common.{sym, ◌∙◌}
 use Rattle.mr_forms.specs.Sets.{both}
-use Rattle.mr_concise.specs.Vector.{vector_has, IsVectorOf}
-use Rattle.mr_itemset.specs.Normal.{vector_of}
+use Rattle.mr_itemset.proofs.Names.{IsVectorOf, vector_has, vector_of}
 use Rattle.mr_itemset.proofs.ItemLemmas.{with_item, item_normal, item_placed, more_than_all}
 use Rattle.mr_itemset.proofs.KeptLemmas.{sparse_item, at_most_more, same_holes}
 use Rattle.mr_itemset.proofs.settled.Settled.grown_item.Goals as goal

@@ -1,9 +1,6 @@
 use Rattle.std.proofs.Common.{map, ap, ◌∙◌}
 use Rattle.std.proofs.lemmas.Bool.{or_left}
-use Rattle.std.proofs.lemmas.List.Elements.{All-contains}
-use Rattle.mr_concise.specs.Vector.{vector_has}
-use Rattle.mr_itemset.specs.inner.Entries.{listed_of}
-use Rattle.mr_itemset.specs.Normal.{HasMore}
+use Rattle.mr_itemset.proofs.Names.{All-contains, HasMore, listed_of, vector_has}
 use Rattle.mr_itemset.proofs.WalkLemmas.{lent, items_next, items_more, items_all, lower_before, Contains-middle}
 use Rattle.mr_itemset.proofs.GrowLemmas.{before_next, grown_more, covers_grown}
 use Rattle.mr_itemset.proofs.settled.Settled.grown_listed.Goals as goal

@@ -1,6 +1,5 @@
 use Rattle.std.proofs.Common.{map}
-use Rattle.mr_itemset.specs.inner.Entries.{listed_of}
-use Rattle.mr_itemset.specs.inner.Growth.{IsGrown}
+use Rattle.mr_itemset.proofs.Names.{IsGrown, listed_of}
 use Rattle.mr_itemset.proofs.WalkLemmas.{lent}
 use Rattle.mr_itemset.proofs.settled.Settled.grown_listed.Given as goal
 

@@ -1,7 +1,5 @@
 use Rattle.std.proofs.Common.{◌≡◌, ◌≤◌, length, false, sym, ◌∙◌}
-use Rattle.std.specs.List.{list_any}
-use Rattle.mr_version.specs.Name.{name_eq}
-use Rattle.mr_itemset.specs.inner.Normal.{items_of}
+use Rattle.mr_itemset.proofs.Names.{items_of, list_any, name_eq}
 use Rattle.mr_itemset.proofs.RoomLemmas.{not_false}
 use Rattle.mr_itemset.proofs.EntryLemmas.{listed_of-length}
 use Rattle.mr_itemset.proofs.WithLemmas.{lists_too_many}

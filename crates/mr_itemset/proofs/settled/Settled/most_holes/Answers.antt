@@ -1,7 +1,5 @@
 use Rattle.std.proofs.Common.{◌∙◌}
-use Rattle.std.proofs.lemmas.List.Elements.{All-nil, All-push, All-weaker}
-use Rattle.mr_concise.specs.declared.column.TheConstants.{MAX_HOLES}
-use Rattle.mr_itemset.specs.Folded.{HasAtMost}
+use Rattle.mr_itemset.proofs.Names.{All-nil, All-push, All-weaker, HasAtMost, MAX_HOLES}
 use Rattle.mr_itemset.proofs.WalkLemmas.{All-read}
 use Rattle.mr_itemset.proofs.KeptLemmas.{sparse_all, at_most_more}
 use Rattle.mr_itemset.proofs.settled.Settled.most_holes.Goals as goal

@@ -1,6 +1,5 @@
 use Rattle.std.proofs.Common.{◌≤◌, All}
-use Rattle.mr_concise.specs.declared.column.TheConstants.{MAX_HOLES}
-use Rattle.mr_itemset.specs.Folded.{HasAtMost}
+use Rattle.mr_itemset.proofs.Names.{HasAtMost, MAX_HOLES}
 use Rattle.mr_itemset.proofs.settled.Settled.most_holes.Given as goal
 
 -- no vector so far has a column of more holes

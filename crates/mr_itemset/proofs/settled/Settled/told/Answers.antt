@@ -1,7 +1,5 @@
 use Rattle.std.proofs.Common.{◌≡◌, [], ◌∷◌, None, map}
-use Rattle.mr_forms.specs.declared.fragment.TheConstants.{MAX_ITEMS}
-use Rattle.mr_itemset.specs.Groups.{all_grouped}
-use Rattle.mr_itemset.specs.Shown.{shown, shown_group}
+use Rattle.mr_itemset.proofs.Names.{MAX_ITEMS, all_grouped, shown, shown_group}
 use Rattle.mr_itemset.proofs.ToldItems.{told_fragments}
 use Rattle.mr_itemset.proofs.settled.Settled.told.Goals as goal
 

@@ -1,6 +1,5 @@
 use Rattle.std.proofs.Common.{List, Option, ap, sym, ◌∙◌}
-use Rattle.std.specs.Option.{unwrap_or}
-use Rattle.mr_concise.specs.declared.vector.AuthorColumn.{AuthorColumn}
+use Rattle.mr_itemset.proofs.Names.{AuthorColumn, unwrap_or}
 use Rattle.mr_itemset.proofs.EntryLemmas.{vector_in-lookup}
 use Rattle.mr_itemset.proofs.settled.Settled.vector_of.Goals as goal
 

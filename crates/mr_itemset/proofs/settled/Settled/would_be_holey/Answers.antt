@@ -1,8 +1,6 @@
 use Rattle.std.proofs.Common.{sym, ◌∙◌, refl}
-use Rattle.std.proofs.lemmas.Bool.{false≢true}
-use Rattle.std.proofs.lemmas.List.Elements.{All-push}
+use Rattle.mr_itemset.proofs.Names.{All-push, HasTooManyHoles, false≢true, vector_has}
 use Rattle.mr_forms.specs.Sets.{both}
-use Rattle.mr_concise.specs.Vector.{vector_has, HasTooManyHoles}
 use Rattle.mr_itemset.proofs.WalkLemmas.{All-read, read_vector}
 use Rattle.mr_itemset.proofs.LimitLemmas.{holey_all, holey_listed, not_holey}
 use Rattle.mr_itemset.proofs.settled.Settled.would_be_holey.Goals as goal

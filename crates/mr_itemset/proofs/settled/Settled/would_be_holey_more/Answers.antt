@@ -1,11 +1,7 @@
 use Rattle.std.proofs.Common.{sym, ◌∙◌, subst}
-use Rattle.std.proofs.lemmas.Bool.{false≢true}
-use Rattle.mr_forms.specs.Sets.{Covers, both}
-use Rattle.mr_forms.specs.Known.{with_below}
-use Rattle.mr_concise.specs.Source.{ColumnsHaveAtMost}
-use Rattle.mr_concise.specs.Vector.{vector_has}
-use Rattle.mr_itemset.specs.Normal.{normal_known, vector_of}
-use Rattle.mr_itemset.specs.ItemForm.{HasHoleyItem, with_all}
+use Rattle.mr_itemset.proofs.Names.{ColumnsHaveAtMost, Covers, HasHoleyItem, false≢true, normal_known, vector_has, vector_of, with_below}
+use Rattle.mr_forms.specs.Sets.{both}
+use Rattle.mr_itemset.specs.ItemForm.{with_all}
 use Rattle.mr_itemset.proofs.AtMostLemmas.{few_with}
 use Rattle.mr_itemset.proofs.FoldedLemmas.{same_pairs}
 use Rattle.mr_itemset.proofs.KeptLemmas.{covered_set}

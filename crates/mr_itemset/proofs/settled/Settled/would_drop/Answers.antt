@@ -1,7 +1,6 @@
 use Rattle.std.proofs.Common.{◌∙◌}
-use Rattle.std.proofs.lemmas.List.Elements.{All-push}
-use Rattle.mr_forms.specs.Sets.{Covers, both}
-use Rattle.mr_concise.specs.Vector.{vector_has}
+use Rattle.mr_itemset.proofs.Names.{All-push, Covers, vector_has}
+use Rattle.mr_forms.specs.Sets.{both}
 use Rattle.mr_itemset.proofs.WalkLemmas.{All-read, read_vector}
 use Rattle.mr_itemset.proofs.WithLemmas.{lacks-not_covers}
 use Rattle.mr_itemset.proofs.settled.Settled.would_drop.Goals as goal

@@ -1,6 +1,5 @@
 use Rattle.std.proofs.Common.{sym, ◌∙◌}
-use Rattle.mr_version.specs.Name.{name_eq}
-use Rattle.mr_concise.specs.Source.{in_some}
+use Rattle.mr_itemset.proofs.Names.{in_some, name_eq}
 use Rattle.mr_itemset.proofs.SparingLemmas.{spread_all}
 use Rattle.mr_itemset.proofs.sparing.SparingKnowledge.spread.Goals as goal
 

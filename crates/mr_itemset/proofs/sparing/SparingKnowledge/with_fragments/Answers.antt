@@ -1,9 +1,4 @@
-use Rattle.std.proofs.lemmas.List.Elements.{All-weaker}
-use Rattle.mr_forms.specs.Known.{HasValue}
-use Rattle.mr_forms.specs.Merged.{after_each}
-use Rattle.mr_itemset.specs.Normal.{normal_known}
-use Rattle.mr_itemset.specs.ItemForm.{items_form}
-use Rattle.mr_itemset.specs.Sparing.{sparing_form}
+use Rattle.mr_itemset.proofs.Names.{All-weaker, HasValue, after_each, items_form, normal_known, sparing_form}
 use Rattle.mr_itemset.specs.declared.sparing.TheConstants.{MAX_LISTED_ITEMS}
 use Rattle.mr_itemset.proofs.sparing.SparingKnowledge.with_fragments.Goals as goal
 

@@ -1,10 +1,6 @@
 use Rattle.std.proofs.Common.{◌≡◌, ◌+◌, ◌↔◌, ℕ, true, sym, subst, refl, arith}
-use Rattle.mr_forms.specs.Runs.{of_author}
+use Rattle.mr_itemset.proofs.Names.{Extent, IsToldOfAuthor, column_has, column_of, column_of-IsColumn, of_author, vector_has}
 use Rattle.mr_forms.specs.Sets.{both}
-use Rattle.mr_concise.specs.Column.{Extent, column_has}
-use Rattle.mr_concise.specs.Vector.{column_of, vector_has}
-use Rattle.mr_concise.proofs.UnionLemmas.{column_of-IsColumn}
-use Rattle.mr_itemset.specs.Told.{IsToldOfAuthor}
 use Rattle.mr_itemset.proofs.ToldWalk.{joined, walked_more, walked_end, walked_few, next_with, none_with, beyond_with, row_with}
 use Rattle.mr_itemset.proofs.told.Difference.column.Goals as goal
 

@@ -1,7 +1,5 @@
 use Rattle.std.proofs.Common.{◌-◌}
-use Rattle.mr_concise.specs.Vector.{vector_has}
-use Rattle.mr_concise.specs.declared.column.TheConstants.{COUNTERS_END}
-use Rattle.mr_forms.specs.Runs.{of_author}
+use Rattle.mr_itemset.proofs.Names.{COUNTERS_END, of_author, vector_has}
 use Rattle.mr_forms.specs.Sets.{both}
 use Rattle.mr_itemset.proofs.ToldWalk.{Walked}
 use Rattle.mr_itemset.proofs.told.Difference.column.Given as goal

@@ -1,6 +1,5 @@
 use Rattle.std.proofs.Common.{arith}
-use Rattle.mr_forms.specs.Runs.{of_author}
-use Rattle.mr_concise.specs.Vector.{vector_has}
+use Rattle.mr_itemset.proofs.Names.{of_author, vector_has}
 use Rattle.mr_itemset.proofs.HoleWalk.{row_end}
 use Rattle.mr_itemset.proofs.ToldLemmas.{beyond_parts, beyond_from}
 use Rattle.mr_itemset.proofs.told.Difference.last_in_row.Goals as goal

@@ -1,7 +1,6 @@
 use Rattle.std.proofs.Common.{◌-◌}
-use Rattle.mr_concise.specs.declared.column.TheConstants.{COUNTERS_END}
+use Rattle.mr_itemset.proofs.Names.{COUNTERS_END, beyond}
 use Rattle.mr_concise.proofs.MeetLemmas.{NoneTo}
-use Rattle.mr_itemset.specs.inner.Told.{beyond}
 use Rattle.mr_itemset.proofs.told.Difference.next_in.Given as goal
 
 -- up to here there is none

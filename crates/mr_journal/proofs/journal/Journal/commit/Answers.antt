@@ -1,6 +1,5 @@
 use Rattle.std.proofs.Common.{ℕ, ◌++◌, List, refl, ◌∙◌, subst, arith, length-append}
-use Rattle.mr_journal.specs.Device.{Rests}
-use Rattle.mr_journal.specs.Format.{batch, contents}
+use Rattle.mr_journal.proofs.Names.{Rests, batch, contents}
 use Rattle.mr_journal.proofs.BatchLemmas.{behind_gate, commit_leaves, fitting, grown, length-sealed}
 use Rattle.mr_journal.proofs.journal.Journal.commit.Goals as goal
 

@@ -1,10 +1,5 @@
 use Rattle.std.proofs.Common.{◌≡◌, ◌∙◌, length, Some, Ok, Err, refl, sym, ap, subst}
-use Rattle.mr_replica.specs.State.{State}
-use Rattle.mr_replica.specs.declared.event.Reply.{Reply}
-use Rattle.mr_replica.specs.declared.refusal.Refusal.TheVariants.{OutOfMemory}
-use Rattle.mr_kept.specs.Kept.{leaving}
-use Rattle.mr_kept_node.specs.Machine.{Goes}
-use Rattle.mr_kept_node.specs.declared.machine.KeptMachine.{KeptMachine}
+use Rattle.mr_kept_node.proofs.Names.{Goes, KeptMachine, OutOfMemory, Reply, State, leaving}
 use Rattle.mr_kept_node.proofs.Replying.{handed, reply_given}
 use Rattle.mr_kept_node.proofs.Taking.{declined, no_fault, stopped, taken, takes_none, takes_one}
 use Rattle.mr_kept_node.proofs.machine.KeptMachineMachineEventAnswer.take.Goals as goal

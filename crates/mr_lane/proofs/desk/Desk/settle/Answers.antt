@@ -1,7 +1,5 @@
 use Rattle.std.proofs.Common.{rules, ◌≡◌, ◌∙◌, ◌++◌, ◌∷◌, [], true, length, sym, ap}
-use Rattle.mr_lane.specs.Note.{sender_number}
-use Rattle.mr_lane.specs.Desk.{have_all_finished}
-use Rattle.mr_lane.specs.Post.{inbox_sight_of}
+use Rattle.mr_lane.proofs.Names.{have_all_finished, inbox_sight_of, sender_number}
 use Rattle.mr_lane.proofs.InboxLemmas.{inbox_merges, inbox_accounts}
 use Rattle.mr_lane.proofs.SettleLemmas.{all_settled}
 use Rattle.mr_lane.proofs.desk.Desk.settle.Goals as goal

@@ -1,6 +1,5 @@
 use Rattle.std.proofs.Common.{rules, sym, subst, ◌∙◌}
-use Rattle.mr_lane.specs.Desk.{AreMarksOf}
-use Rattle.mr_lane.specs.Post.{inbox_sight_of}
+use Rattle.mr_lane.proofs.Names.{AreMarksOf, inbox_sight_of}
 use Rattle.mr_lane.proofs.NoteLemmas.{takes_letter, takes_mark}
 use Rattle.mr_lane.proofs.desk.Desk.take.Goals as goal
 

@@ -1,11 +1,7 @@
 use Rattle.std.proofs.Common.{◌≡◌, ℕ, ap, refl, subst, sym, ◌∙◌}
-use Rattle.std.proofs.lemmas.Bool.{false≢true}
-use Rattle.std.specs.Global.{Vec}
-use Rattle.mr_link.specs.declared.chunk.Chunk.{Chunk}
-use Rattle.mr_lane.specs.Tap.{TapEnd, HandsBack}
+use Rattle.mr_link.proofs.Names.{Chunk, HandsBack, LaneEnd, TapEnd, Vec, false≢true}
 use Rattle.mr_lane.specs.declared.fault.SendFault.{SendFault}
 use Rattle.mr_lane.specs.declared.fault.SendFault.TheVariants.{Full}
-use Rattle.mr_link.specs.LaneLink.{LaneEnd}
 use Rattle.mr_link.proofs.LaneBytes.{piece_offered, none_offered, same_end, some_bytes}
 use Rattle.mr_link.proofs.lane_links.LaneLinkLink.send.Goals as goal
 

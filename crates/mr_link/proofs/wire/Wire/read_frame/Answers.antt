@@ -1,6 +1,5 @@
 use Rattle.std.proofs.Common.{[], Ok, Err, ap, subst, sym, arith}
-use Rattle.mr_frames.specs.Reader.{Nexts}
-use Rattle.mr_link.specs.Wire.{wire_of, ReadsFrame}
+use Rattle.mr_link.proofs.Names.{Nexts, ReadsFrame, wire_of}
 use Rattle.mr_link.proofs.Passing.{well_on}
 use Rattle.mr_link.proofs.Reading.{reads_on, piece_fault, starts, with_reader, drained, none_left, still_reads, found_frame, found_fault}
 use Rattle.mr_link.proofs.wire.Wire.read_frame.Goals as goal

@@ -1,7 +1,5 @@
 use Rattle.std.proofs.Common.{Err, subst, sym, ◌∙◌}
-use Rattle.mr_link.specs.Wire.{wire_of}
-use Rattle.mr_link.specs.inner.Wire.{ReadsPiece, Hands}
-use Rattle.mr_link.specs.declared.wire.Wire.{Wire}
+use Rattle.mr_link.proofs.Names.{Hands, ReadsPiece, Wire, wire_of}
 use Rattle.mr_link.proofs.Reading.{wired, has_not_failed, hands_up, held_read, piece_read, piece_lost}
 use Rattle.mr_link.proofs.wire.Wire.receive.Goals as goal
 

@@ -1,7 +1,6 @@
 use Rattle.std.proofs.Common.{Err, ap, arith, subst, sym}
-use Rattle.mr_wire.specs.Grammar.{Spells}
+use Rattle.mr_link.proofs.Names.{Spells, WritesFrame, wire_of}
 use Rattle.mr_wire.specs.declared.frame.Frame.TheVariants as frame
-use Rattle.mr_link.specs.Wire.{wire_of, WritesFrame}
 use Rattle.mr_link.proofs.Reading.{frame_unsent, unsent_too_long}
 use Rattle.mr_link.proofs.wire.Wire.send_ask.Goals as goal
 

@@ -1,8 +1,5 @@
 use Rattle.std.proofs.Common.{◌≡◌, List, ℕ, false, sym, subst}
-use Rattle.std.specs.Prelude.{codes}
-use Rattle.std.proofs.lemmas.Result.{IfOk-weaker}
-use Rattle.mr_mail.specs.Label.{text_eq}
-use Rattle.mr_maildir.specs.Layout.{IsFolderPath}
+use Rattle.mr_maildir.proofs.Names.{IfOk-weaker, IsFolderPath, codes, text_eq}
 use Rattle.mr_maildir.proofs.LayoutLemmas.{path_below, path_not_own}
 use Rattle.mr_maildir.proofs.layout.Layout.path_of.Goals as goal
 

@@ -1,6 +1,5 @@
 use Rattle.std.proofs.Common.{◌<◌, length, arith}
-use Rattle.mr_maildir.specs.FileActs.{move_in}
-use Rattle.mr_maildir.specs.inner.FileActs.{mail_in}
+use Rattle.mr_maildir.proofs.Names.{mail_in, move_in}
 use Rattle.mr_maildir.proofs.PlanLemmas.{one_more}
 use Rattle.mr_maildir.proofs.plan.MailNames.push_moves.Goals as goal
 

@@ -1,7 +1,5 @@
 use Rattle.std.proofs.Common.{◌≡◌, ◌++◌, take}
-use Rattle.std.specs.List.{flat_map}
-use Rattle.mr_maildir.specs.FileActs.{move_in}
-use Rattle.mr_maildir.specs.inner.FileActs.{mail_in}
+use Rattle.mr_maildir.proofs.Names.{flat_map, mail_in, move_in}
 use Rattle.mr_maildir.proofs.plan.MailNames.push_moves.Given as goal
 
 abbrev pub invariant-loop-label : goal.invariant-loop-label

@@ -1,7 +1,5 @@
 use Rattle.std.proofs.Common.{◌≡◌, ◌++◌, take}
-use Rattle.std.specs.List.{flat_map}
-use Rattle.mr_maildir.specs.FileActs.{remove_of}
-use Rattle.mr_maildir.specs.inner.FileActs.{mail_in}
+use Rattle.mr_maildir.proofs.Names.{flat_map, mail_in, remove_of}
 use Rattle.mr_maildir.proofs.plan.MailNames.push_removes.Given as goal
 
 abbrev pub invariant-loop-file : goal.invariant-loop-file

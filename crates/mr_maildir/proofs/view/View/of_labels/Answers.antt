@@ -1,6 +1,5 @@
 use Rattle.std.proofs.Common.{◌≤◌, rules}
-use Rattle.std.specs.List.{AllPass}
-use Rattle.mr_mail.specs.Label.{is_label}
+use Rattle.mr_maildir.proofs.Names.{AllPass, is_label}
 use Rattle.mr_maildir.proofs.ViewLemmas.{IsView-in_order}
 use Rattle.mr_maildir.proofs.view.View.of_labels.Goals as goal
 

@@ -1,9 +1,7 @@
 use Rattle.std.proofs.Common.{◌≡◌, true, length, Some, refl, sym, ap, ◌∙◌}
-use Rattle.std.specs.List.{slice_get}
+use Rattle.mr_session.proofs.Names.{Piece, slice_get, vector_has}
 use Rattle.std.proofs.lemmas.Option.{slice_get_read}
-use Rattle.mr_concise.specs.Vector.{vector_has}
 use Rattle.mr_store.proofs.FragmentIndexLemmas.{general_tells}
-use Rattle.mr_wire.specs.Values.{Piece}
 use Rattle.mr_session.proofs.asked.AskedOf.first_general.Goals as goal
 
 pub returns : goal.returns

@@ -1,6 +1,5 @@
 use Rattle.std.proofs.Common.{◌≡◌, Some, sym, ap, ◌∙◌}
-use Rattle.std.specs.Option.{option_copied}
-use Rattle.mr_session.specs.Table.{open_at}
+use Rattle.mr_session.proofs.Names.{open_at, option_copied}
 use Rattle.mr_session.proofs.DrawnLemmas.{only_draw}
 use Rattle.mr_session.proofs.OnwardLemmas.{number_from, prepared_in}
 use Rattle.mr_session.proofs.streams.OpenTable+Outgoing.prepare.Goals as goal

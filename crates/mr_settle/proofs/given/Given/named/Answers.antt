@@ -1,5 +1,4 @@
-use Rattle.std.specs.Option.{option_copied}
-use Rattle.mr_settle.specs.inner.Named.{given_by}
+use Rattle.mr_settle.proofs.Names.{given_by, option_copied}
 use Rattle.mr_settle.proofs.NamedLemmas.{named_receive, named_answer, named_release}
 use Rattle.mr_settle.proofs.given.Given.named.Goals as goal
 

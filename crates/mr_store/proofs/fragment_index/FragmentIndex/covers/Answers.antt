@@ -1,8 +1,5 @@
 use Rattle.std.proofs.Common.{◌≡◌, ◌||◌, Bool, ℕ, map, filter, sym, ap, subst, ◌∙◌}
-use Rattle.std.specs.List.{list_any}
-use Rattle.mr_store.specs.declared.fragment_index.Listing.{Listing}
-use Rattle.mr_store.specs.FragmentIndex.{Places, Finds}
-use Rattle.mr_store.specs.inner.FragmentIndex.{is_for, has_at}
+use Rattle.mr_store.proofs.Names.{Finds, Listing, Places, has_at, is_for, list_any}
 use Rattle.mr_store.proofs.FragmentIndexLemmas.{told_is}
 use Rattle.mr_store.proofs.fragment_index.FragmentIndex.covers.Goals as goal
 

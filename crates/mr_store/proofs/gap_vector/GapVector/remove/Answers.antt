@@ -1,6 +1,5 @@
 use Rattle.std.proofs.Common.{◌∙◌, ap, List, drop, remove}
-use Rattle.mr_madewith.specs.Revision.{Rev}
-use Rattle.mr_store.specs.inner.GapVector.{GapParts}
+use Rattle.mr_store.proofs.Names.{GapParts, Rev}
 use Rattle.mr_store.proofs.GapLemmas.{drop-remove}
 use Rattle.mr_store.proofs.gap_vector.GapVector.remove.Goals as goal
 

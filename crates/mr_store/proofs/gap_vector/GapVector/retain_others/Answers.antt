@@ -1,8 +1,5 @@
 use Rattle.std.proofs.Common.{rules, ap, not, filter, Bool, ◌∙◌}
-use Rattle.std.proofs.lemmas.Fn.{filter_same}
-use Rattle.mr_madewith.specs.Revision.{Rev}
-use Rattle.mr_store.specs.inner.GapVector.{GapParts}
-use Rattle.mr_store.specs.Revisions.{holds}
+use Rattle.mr_store.proofs.Names.{GapParts, Rev, filter_same, holds}
 use Rattle.mr_store.proofs.gap_vector.GapVector.retain_others.Goals as goal
 
 pub returns-clause-items : goal.returns-clause-items

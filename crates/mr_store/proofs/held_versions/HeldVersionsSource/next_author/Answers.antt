@@ -1,8 +1,5 @@
 use Rattle.std.proofs.Common.{sym, subst, take}
-use Rattle.mr_concise.specs.AnyOf.{in_any}
-use Rattle.mr_concise.proofs.AnyOfLemmas.{in_any-more_is, NextAuthor, NextAuthor-lower}
-use Rattle.mr_forms.specs.Sets.{Versions}
-use Rattle.mr_store.specs.HeldVersions.{by_held}
+use Rattle.mr_store.proofs.Names.{NextAuthor, NextAuthor-lower, Versions, by_held, in_any, in_any-more_is}
 use Rattle.mr_store.proofs.HeldVersionLemmas.{looked_up}
 use Rattle.mr_store.proofs.held_versions.HeldVersionsSource.next_author.Goals as goal
 

@@ -1,7 +1,5 @@
 use Rattle.std.proofs.Common.{take}
-use Rattle.mr_concise.specs.AnyOf.{in_any}
-use Rattle.mr_concise.proofs.AnyOfLemmas.{NextAuthor}
-use Rattle.mr_store.specs.HeldVersions.{by_held}
+use Rattle.mr_store.proofs.Names.{NextAuthor, by_held, in_any}
 use Rattle.mr_store.proofs.held_versions.HeldVersionsSource.next_author.Given as goal
 
 abbrev pub invariant-loop-version : goal.invariant-loop-version

@@ -1,9 +1,5 @@
 use Rattle.std.proofs.Common.{sym, subst, take, take_all}
-use Rattle.mr_concise.specs.AnyOf.{in_any}
-use Rattle.mr_concise.proofs.AnyOfLemmas.{in_any-more_is, NextIn, NextIn-lower, bound-lower}
-use Rattle.mr_forms.specs.Sets.{Versions}
-use Rattle.mr_forms.specs.Runs.{of_author}
-use Rattle.mr_store.specs.HeldVersions.{by_held}
+use Rattle.mr_store.proofs.Names.{NextIn, NextIn-lower, Versions, bound-lower, by_held, in_any, in_any-more_is, of_author}
 use Rattle.mr_store.proofs.HeldVersionLemmas.{looked_up}
 use Rattle.mr_store.proofs.held_versions.HeldVersionsSource.next_in.Goals as goal
 

@@ -1,9 +1,6 @@
 use Rattle.std.proofs.Common.{take, ◌≤◌}
 use Rattle.std.specs.Prelude.{IfSome}
-use Rattle.mr_forms.specs.Runs.{of_author}
-use Rattle.mr_concise.specs.AnyOf.{in_any}
-use Rattle.mr_concise.proofs.AnyOfLemmas.{NextIn}
-use Rattle.mr_store.specs.HeldVersions.{by_held}
+use Rattle.mr_store.proofs.Names.{NextIn, by_held, in_any, of_author}
 use Rattle.mr_store.proofs.held_versions.HeldVersionsSource.next_in.Given as goal
 
 abbrev pub invariant-loop-version : goal.invariant-loop-version

@@ -1,8 +1,5 @@
 use Rattle.std.proofs.Common.{◌-◌}
-use Rattle.mr_forms.specs.Runs.{of_author}
-use Rattle.mr_concise.specs.AnyOf.{in_any}
-use Rattle.mr_concise.proofs.AnyOfLemmas.{IsAllTo}
-use Rattle.mr_store.specs.HeldVersions.{by_held}
+use Rattle.mr_store.proofs.Names.{IsAllTo, by_held, in_any, of_author}
 use Rattle.mr_store.proofs.held_versions.HeldVersionsSource.next_out.Given as goal
 
 abbrev pub invariant-loop-at : goal.invariant-loop-at

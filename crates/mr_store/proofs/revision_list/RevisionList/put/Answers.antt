@@ -1,8 +1,5 @@
 use Rattle.std.proofs.Common.{◌≡◌, ◌∙◌, Some, ap, subst}
-use Rattle.mr_store.specs.inner.RevisionList.{RevisionParts}
-use Rattle.mr_store.specs.Revisions.{AreInVersionOrder, entered}
-use Rattle.mr_store.specs.Room.{room_of}
-use Rattle.mr_store.specs.inner.Index.{IsIndexOf}
+use Rattle.mr_store.proofs.Names.{AreInVersionOrder, IsIndexOf, RevisionParts, entered, room_of}
 use Rattle.mr_store.proofs.IndexLemmas.{index-put}
 use Rattle.mr_store.proofs.revision_list.RevisionList.put.Goals as goal
 

@@ -1,10 +1,7 @@
 use Rattle.std.proofs.Common.{ap, List, arith}
-use Rattle.mr_store.specs.Leaving.{leaves}
-use Rattle.mr_madewith.specs.Revision.{Rev}
-use Rattle.mr_store.specs.inner.RevisionList.{RevisionParts}
+use Rattle.mr_store.proofs.Names.{Rev, RevisionParts, leaves, versions_of}
 use Rattle.mr_store.proofs.IndexLemmas.{index-left}
 use Rattle.mr_store.proofs.ListedLemmas.{to_list-exact}
-use Rattle.mr_store.specs.Revisions.{versions_of}
 use Rattle.mr_store.proofs.revision_list.RevisionList.remove_leaving.Goals as goal
 
 pub let_leave-requires-clause-listed : goal.let_leave-requires-clause-listed

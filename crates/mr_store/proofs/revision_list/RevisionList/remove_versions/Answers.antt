@@ -1,14 +1,7 @@
 use Rattle.std.proofs.Common.{not, sym, ◌∙◌, ap, List, Option, arith}
-use Rattle.std.specs.List.{filter}
-use Rattle.std.specs.Option.{option_map}
-use Rattle.mr_version.specs.Name.{Name}
-use Rattle.mr_madewith.proofs.Rising.{rises-filter}
-use Rattle.mr_store.specs.inner.Index.{stays_listed, to_list}
-use Rattle.mr_store.specs.Revisions.{version_of, versions_of, holds}
+use Rattle.mr_store.proofs.Names.{Name, Rev, RevisionParts, filter, holds, option_map, rises-filter, stays_listed, to_list, version_of, versions_of}
 use Rattle.mr_store.proofs.RevisionLemmas.{versions_of-filter, none_left}
 use Rattle.mr_store.proofs.ListedLemmas.{stays-some}
-use Rattle.mr_madewith.specs.Revision.{Rev}
-use Rattle.mr_store.specs.inner.RevisionList.{RevisionParts}
 use Rattle.mr_store.proofs.revision_list.RevisionList.remove_versions.Goals as goal
 
 pub returns-then-is_empty : goal.returns-then-is_empty

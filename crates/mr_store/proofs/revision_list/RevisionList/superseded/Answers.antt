@@ -1,11 +1,5 @@
 use Rattle.std.proofs.Common.{◌≡◌, ◌+◌, ap, sym, ◌∙◌, List, [], ◌∷◌, ◌++◌, take, take_all, arith, Option, Some, None, refl, append-nil}
-use Rattle.std.specs.List.{filter_map}
-use Rattle.std.proofs.lemmas.List.{take_more}
-use Rattle.std.proofs.lemmas.List.Elements.{filter_map-append}
-use Rattle.mr_version.specs.Name.{Name}
-use Rattle.mr_madewith.specs.Revision.{Rev}
-use Rattle.mr_concise.specs.Vector.{vector_has}
-use Rattle.mr_store.specs.inner.RevisionList.{RevisionParts}
+use Rattle.mr_store.proofs.Names.{Name, Rev, RevisionParts, filter_map, filter_map-append, take_more, vector_has}
 use Rattle.mr_store.proofs.RevisionLemmas.{found_below, found-versions_of}
 use Rattle.mr_store.proofs.revision_list.RevisionList.superseded.Goals.{in-Some+in_ok-copy+in_ok-push, in_default}
 use Rattle.mr_store.proofs.revision_list.RevisionList.superseded.Goals as goal

@@ -1,6 +1,5 @@
 use Rattle.std.proofs.Common.{◌≡◌, take}
-use Rattle.std.specs.List.{filter_map}
-use Rattle.mr_concise.specs.Vector.{vector_has}
+use Rattle.mr_store.proofs.Names.{filter_map, vector_has}
 use Rattle.mr_store.proofs.RevisionLemmas.{found_below}
 use Rattle.mr_store.proofs.revision_list.RevisionList.superseded.Given as goal
 

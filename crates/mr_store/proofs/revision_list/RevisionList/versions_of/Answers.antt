@@ -1,6 +1,5 @@
 use Rattle.std.proofs.Common.{◌≡◌, ◌∙◌, None, ap, sym}
-use Rattle.mr_store.specs.inner.Index.{to_list}
-use Rattle.mr_store.specs.Revisions.{versions_of}
+use Rattle.mr_store.proofs.Names.{to_list, versions_of}
 use Rattle.mr_store.proofs.IndexLemmas.{items_of_list}
 use Rattle.mr_store.proofs.ListedLemmas.{listed_is, unlisted_alone, firsts_are_all}
 use Rattle.mr_store.proofs.revision_list.RevisionList.versions_of.Goals as goal

@@ -1,10 +1,5 @@
 use Rattle.std.proofs.Common.{◌≡◌, List, not, sym, subst, ap, ◌∙◌}
-use Rattle.std.specs.List.{filter}
-use Rattle.mr_madewith.specs.Revision.{Rev}
-use Rattle.mr_madewith.proofs.Rising.{rises-filter}
-use Rattle.mr_store.specs.Revisions.{AreInVersionOrder, version_of, holds}
-use Rattle.mr_store.specs.Holdings.{Holdings}
-use Rattle.mr_store.specs.Unheld.{is_unheld}
+use Rattle.mr_store.proofs.Names.{AreInVersionOrder, Holdings, Rev, filter, holds, is_unheld, rises-filter, version_of}
 use Rattle.mr_store.proofs.RevisionLemmas.{filter-passing}
 use Rattle.mr_store.proofs.store.Store.drop_unheld.Goals as goal
 

@@ -1,6 +1,5 @@
 use Rattle.std.proofs.Common.{ap}
-use Rattle.mr_store.specs.inner.RevisionList.{RevisionParts}
-use Rattle.mr_store.specs.Holdings.{Holdings}
+use Rattle.mr_store.proofs.Names.{Holdings, RevisionParts}
 use Rattle.mr_store.proofs.HoldingLemmas.{revision_of-neither, apart_entered_first, apart_entered_second}
 use Rattle.mr_store.proofs.store.Store.enter.Goals as goal
 

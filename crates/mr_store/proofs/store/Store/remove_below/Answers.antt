@@ -1,8 +1,5 @@
 use Rattle.std.proofs.Common.{ap, not, []}
-use Rattle.mr_madewith.specs.Revision.{Rev}
-use Rattle.mr_store.specs.Leaving.{leaves}
-use Rattle.mr_store.specs.Revisions.{supersedes}
-use Rattle.mr_store.specs.inner.RevisionList.{RevisionParts}
+use Rattle.mr_store.proofs.Names.{Rev, RevisionParts, leaves, supersedes}
 use Rattle.mr_store.proofs.HoldingLemmas.{apart_kept, no_new-filter}
 use Rattle.mr_store.proofs.store.Store.remove_below.Goals as goal
 

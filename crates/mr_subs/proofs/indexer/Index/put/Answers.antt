@@ -1,7 +1,5 @@
 use Rattle.std.proofs.Common.{◌∙◌, sym, ap, subst, cond, Some, IsTrue}
-use Rattle.mr_version.specs.Name.{name_eq}
-use Rattle.mr_mail.specs.Label.{has_label}
-use Rattle.mr_subs.specs.Index.{card_at}
+use Rattle.mr_subs.proofs.Names.{card_at, has_label, name_eq}
 use Rattle.mr_subs.proofs.IndexLemmas.{AreShelved-put, AreShelved-changed}
 use Rattle.mr_subs.proofs.indexer.Index.put.Goals as goal
 

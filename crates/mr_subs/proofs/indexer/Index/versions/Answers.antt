@@ -1,9 +1,6 @@
 use Rattle.std.proofs.Common.{◌∙◌, ap, sym, subst}
-use Rattle.std.specs.List.Sorted.{IsStrictlySortedBy}
+use Rattle.mr_subs.proofs.Names.{IsStrictlySortedBy, card_at, is_listed, labelled, name_cmp, set_has}
 use Rattle.std.proofs.lemmas.Result.{IfOk-weaker}
-use Rattle.mr_version.specs.Name.{name_cmp}
-use Rattle.mr_feed.specs.Fold.{is_listed}
-use Rattle.mr_subs.specs.Index.{card_at, labelled, set_has}
 use Rattle.mr_subs.proofs.IndexLemmas.{is_listed-filter, rising-filter, rising-none}
 use Rattle.mr_subs.proofs.indexer.Index.versions.Goals as goal
 

@@ -1,7 +1,6 @@
 -- What is said is what the host answered, or that a call was refused.
 use Rattle.std.proofs.Common.{inl, refl, sym, [], ◌∷◌, Some, Ok}
-use Rattle.std.specs.Option.{option_copied}
-use Rattle.mr_talk.specs.Host.{Asks, Gives, Greets}
+use Rattle.mr_talk.proofs.Names.{Asks, Gives, Greets, option_copied}
 use Rattle.mr_talk.proofs.HostLaws.{acts_one, ended_turn, not_fixed, refused_at, speaks_ask, speaks_freely, suits_err, suits_last}
 use Rattle.mr_talk.proofs.meeting.Meeting.next_speech.Goals as goal
 

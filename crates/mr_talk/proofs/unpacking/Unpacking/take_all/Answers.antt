@@ -1,10 +1,7 @@
 use Rattle.std.proofs.Common.{◌<◌, ℕ, List, arith, ap, subst, sym}
-use Rattle.std.proofs.lemmas.List.{take_rest}
-use Rattle.mr_talk.specs.declared.kind.TheConstants.{MAX_FRAMES_BYTES}
-use Rattle.mr_talk.specs.Packed.{Tells, size_of}
+use Rattle.mr_talk.proofs.Names.{MAX_FRAMES_BYTES, Tells, meaning, size_of, take_rest}
 use Rattle.mr_talk.proofs.LineLaws.{if_err}
 use Rattle.mr_talk.proofs.PackedLaws.{all_told, bad_end, bad_take, left_more, too_much, no_memory, none_left, not_long, spelled_size, take_fault, taken_more, used_within}
-use Rattle.mr_talk.specs.inner.Packed.{meaning}
 use Rattle.mr_talk.proofs.unpacking.Unpacking.take_all.Goals as goal
 
 pub returns-in_default-clause-whole : goal.returns-in_default-clause-whole

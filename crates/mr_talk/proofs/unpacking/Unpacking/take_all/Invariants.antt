@@ -1,6 +1,5 @@
 use Rattle.std.proofs.Common.{◌≤◌, ◌+◌, ◌-◌, length, take, drop}
-use Rattle.mr_talk.specs.Packed.{Spelled, Tells}
-use Rattle.mr_talk.specs.declared.kind.TheConstants.{MAX_FRAMES_BYTES}
+use Rattle.mr_talk.proofs.Names.{MAX_FRAMES_BYTES, Spelled, Tells}
 use Rattle.mr_talk.proofs.unpacking.Unpacking.take_all.Given as goal
 
 -- what was taken was told, and whatever all of it tells the rest tells from there

@@ -1,9 +1,7 @@
 use Rattle.std.proofs.Common.{rules, refl, sym, ap, ◌≡◌, ◌∙◌, ◌++◌, ◌∷◌, [], append_assoc}
-use Rattle.std.proofs.lemmas.List.{map-append}
+use Rattle.mr_threads.proofs.Names.{HaltsAmong, Said, SaysInPart, into_iter_items, letters_said, map-append}
 use Rattle.std.proofs.lemmas.Result.{err_from_is_err_and}
-use Rattle.std.specs.Vec.Iter.{into_iter_items}
-use Rattle.mr_threads.specs.Exchange.{Said, said, letters_said}
-use Rattle.mr_threads.specs.Talk.{SaysInPart, HaltsAmong}
+use Rattle.mr_threads.specs.Exchange.{said}
 use Rattle.mr_threads.proofs.Saying.{says_none, says-append, part_behind, holds_on_err}
 use Rattle.mr_threads.proofs.talk.Talk.say_all.Goals as goal
 

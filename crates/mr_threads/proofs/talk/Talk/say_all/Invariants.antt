@@ -1,7 +1,5 @@
 use Rattle.std.proofs.Common.{◌≡◌, ◌++◌, List}
-use Rattle.std.specs.Vec.Iter.{into_iter_items}
-use Rattle.mr_threads.specs.Exchange.{Said, letters_said}
-use Rattle.mr_threads.specs.Talk.{Says, SameLanes}
+use Rattle.mr_threads.proofs.Names.{Said, SameLanes, Says, into_iter_items, letters_said}
 use Rattle.mr_threads.proofs.talk.Talk.say_all.Given as goal
 
 abbrev pub invariant-loop-letter : goal.invariant-loop-letter
