@@ -1,16 +1,7 @@
 -- Replicas that are alike answer alike, and stay alike.
 use Rattle.std.proofs.Common.{◌≡◌, ◌≢◌, refl, sym, ap, subst, ◌∙◌, ℕ, List, [], ◌∷◌, ◌++◌, Result, Ok, Err, arith}
-use Rattle.mr_filter.specs.Filter.{ClauseParts}
-use Rattle.mr_forms.specs.ByMeaning.{IsByMeaning}
-use Rattle.mr_forms.specs.Known.{Form, Pairs, AreSame}
-use Rattle.mr_replica.specs.State.{State}
-use Rattle.mr_replica.specs.Alike.{seen, AreAlike}
-use Rattle.mr_replica.specs.Step.{Steps, IsDecided}
-use Rattle.mr_replica.specs.Replay.{Admits, AdmitsAll, IsFresh, Replays}
-use Rattle.mr_replica.specs.declared.event.Event.{Event}
-use Rattle.mr_replica.specs.declared.event.Reply.{Reply}
-use Rattle.mr_replica.specs.declared.refusal.Refusal.{Refusal}
-use Rattle.mr_replica.specs.declared.refusal.Refusal.TheVariants.{OutOfMemory}
+use Rattle.mr_replica.proofs.Names.{Admits, AdmitsAll, AreAlike, AreSame, ClauseParts, Event, Form, IsByMeaning, IsDecided, IsFresh, OutOfMemory, Pairs}
+use Rattle.mr_replica.proofs.Names.{Refusal, Replays, Reply, State, Steps, seen}
 use Rattle.mr_replica.proofs.Decided.{IsExact, decided}
 use Rattle.mr_replica.proofs.Seen.{by_meaning, step_seen}
 

@@ -1,23 +1,9 @@
 -- why an event's issue was not made
 use Rattle.std.proofs.Common.{◌≢◌, ◌↔◌, IsErrOf, sym, ◌∙◌, List, Result, Err, inl, inr, arith}
-use Rattle.std.specs.List.{All}
-use Rattle.std.proofs.lemmas.List.Elements.{All-nil, All-cons}
-use Rattle.mr_version.specs.Name.{Name}
-use Rattle.mr_forms.specs.Known.{Form}
-use Rattle.mr_forms.specs.declared.fault.FormFault.{FormFault}
+use Rattle.mr_replica.proofs.Names.{All, All-cons, All-nil, AuthorColumn, Create, Edit, FirstFault, Fits, Form, FormFault, HasTooManyHoles, Issue, Mail, Name}
+use Rattle.mr_replica.proofs.Names.{OutOfMemory, Refusal, RefusesLate, RefusesMade, State, TooManyHoles, TooManyItems, Wanted.Knowledge, Wanted.Vector}
+use Rattle.mr_replica.proofs.Names.{below_of_issue, created, edited, version_learned, wanted_by_issue}
 use Rattle.mr_forms.specs.declared.fault.FormFault.TheVariants as faults
-use Rattle.mr_concise.specs.declared.vector.AuthorColumn.{AuthorColumn}
-use Rattle.mr_concise.specs.Vector.{HasTooManyHoles}
-use Rattle.mr_mail.specs.Mail.{Mail}
-use Rattle.mr_replica.specs.State.{State}
-use Rattle.mr_replica.specs.Issue.{Issue, Wanted.Vector, Wanted.Knowledge, below_of_issue, version_learned, wanted_by_issue, Fits, FirstFault}
-use Rattle.mr_replica.specs.inner.Issued.{RefusesMade}
-use Rattle.mr_replica.specs.Create.{created}
-use Rattle.mr_replica.specs.Edit.{edited}
-use Rattle.mr_replica.specs.Step.{RefusesLate}
-use Rattle.mr_replica.specs.declared.event.Event.TheVariants.{Create, Edit}
-use Rattle.mr_replica.specs.declared.refusal.Refusal.{Refusal}
-use Rattle.mr_replica.specs.declared.refusal.Refusal.TheVariants.{OutOfMemory, TooManyHoles, TooManyItems}
 
 module _ {K : Type 0} (form : Form K) (s : State K) (i : Issue) where
   -- why it was not made

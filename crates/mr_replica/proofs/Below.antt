@@ -1,34 +1,15 @@
 -- what an admitted edit supersedes: all of it was issued before, and the item is among it
 use Rattle.std.proofs.Common.{◌≡◌, ◌≤◌, ◌+◌, ℕ, Bool, true, false, not, ◌&&◌, ◌||◌, ◌==◌, nat_le, nat_lt, refl, ap, ◌∙◌, arith, List, [], ◌∷◌, ◌++◌, Option, Some, None, inl, inr}
-use Rattle.std.specs.List.{list_any, cons_option, filter_map}
-use Rattle.std.specs.Option.{option_map, option_map_or, is_none}
-use Rattle.std.proofs.lemmas.Bool.{cases_Bool, and_parts, or_cases, or_left, or_right, ltb-true}
-use Rattle.mr_version.specs.Name.{Name, name_eq}
-use Rattle.mr_forms.specs.Sets.{IsSame}
-use Rattle.mr_forms.specs.Known.{Form}
-use Rattle.mr_concise.specs.declared.vector.AuthorColumn.{AuthorColumn}
+use Rattle.mr_replica.proofs.Names.{AreColumnsOf, AreNoLater, AuthorColumn, Form, Holdings, IsKept, IsNext, IsNoLater, IsRevision, IsSame, IsSound, Mail}
+use Rattle.mr_replica.proofs.Names.{MixedItems, Name, NoBase, NotHeld, OwnHeadLeft, Rev, State, and_parts, are_all_of, below_for, by_base, by_bases, by_held}
+use Rattle.mr_replica.proofs.Names.{cases_Bool, cons_option, edit_refusal, edited_item, filled_below, filter_map, in_any, is_none, item_of_held, item_refusal}
+use Rattle.mr_replica.proofs.Names.{last_of, list_any, log_full, ltb-true, name_eq, name_eq_self, next_version, not_held, option_map, option_map_or, or_cases}
+use Rattle.mr_replica.proofs.Names.{or_left, or_right, own_before, own_left, refused_if, revision_of, revisions_of, same_names, unnamed, vector_has, ◌orelse◌}
 use Rattle.mr_concise.specs.Source.{in_some}
-use Rattle.mr_concise.specs.Vector.{vector_has}
-use Rattle.mr_madewith.specs.Revision.{Rev, IsRevision, by_base}
-use Rattle.mr_madewith.specs.Trail.{last_of}
-use Rattle.mr_madewith.specs.MadeWith.{own_before, by_bases, filled_below, AreColumnsOf}
-use Rattle.mr_madewith.proofs.Rising.{same_names, name_eq_self, unnamed}
-use Rattle.std.specs.List.{All}
-use Rattle.std.proofs.lemmas.List.Elements.{All-append}
-use Rattle.mr_concise.specs.AnyOf.{in_any}
-use Rattle.mr_store.specs.Revisions.{revision_of}
-use Rattle.mr_store.specs.Holdings.{Holdings}
-use Rattle.mr_store.specs.HeldVersions.{by_held}
-use Rattle.mr_replica.specs.State.{State, next_version, held, item_of_held}
-use Rattle.mr_replica.specs.Refusal.{◌orelse◌, refused_if}
-use Rattle.mr_replica.specs.inner.Sound.{IsNoLater, AreNoLater, IsSound}
-use Rattle.mr_replica.specs.Issue.{revisions_of, below_for}
-use Rattle.mr_mail.specs.Mail.{Mail}
-use Rattle.mr_replica.specs.inner.Issued.{IsNext}
-use Rattle.mr_replica.specs.Admission.{retired, log_full}
-use Rattle.mr_replica.specs.Edit.{not_held, are_all_of, own_left, item_refusal, edit_refusal, edited_item}
-use Rattle.mr_replica.specs.declared.refusal.Refusal.TheVariants.{NoBase, NotHeld, MixedItems, OwnHeadLeft}
+use Rattle.mr_replica.specs.State.{held}
+use Rattle.mr_replica.specs.Admission.{retired}
 use Rattle.mr_replica.proofs.Choice.{first_none, later_none, map_none, found_has}
+use Rattle.mr_replica.proofs.Keeping.{held_kept}
 
 -- a counter below the next was issued
 lower : (a b c n : ℕ) → ((a == b) && (nat_le 1 c && nat_lt c (n + 1))) ≡ true → c ≤ n
@@ -63,13 +44,6 @@ module _ {K : Type 0} (s : State K) where
       λ i v. same v i
 
 module _ {K : Type 0} (form : Form K) (s : State K) (sound : IsSound form s) where
-  -- what all held revisions are
-  held_are : All (λ r. IsRevision r.item r.version r.below) (s.heads ++ s.push_outs)
-  held_are = All-append (λ r. IsRevision r.item r.version r.below) s.heads s.push_outs sound.heads_issued.are sound.push_outs_issued.are
-
-  held_no_later : All (λ r. AreNoLater s.id s.issued r.version r.below) (s.heads ++ s.push_outs)
-  held_no_later = All-append (λ r. AreNoLater s.id s.issued r.version r.below) s.heads s.push_outs sound.heads_issued.no_later sound.push_outs_issued.no_later
-
   -- a version with all that it supersedes
   no_later_up_to : (r : Rev) → AreNoLater s.id s.issued r.version r.below → (v : Name) → by_base r v ≡ true → IsNoLater s.id s.issued v
   no_later_up_to r h v in' = grind (arith, or_cases, same_names)
@@ -80,7 +54,7 @@ module _ {K : Type 0} (form : Form K) (s : State K) (sound : IsSound form s) whe
   no_later_by_held base v rest None is later in' = later in'
   no_later_by_held base v rest (Some r) is later in' =
       elim (or_cases (by_base r v) (by_bases rest v) in') [
-        | inl here ↦ no_later_up_to r (found_has (λ r. AreNoLater s.id s.issued r.version r.below) (λ r. name_eq r.version base) (s.heads ++ s.push_outs) r held_no_later is).0 v here
+        | inl here ↦ no_later_up_to r (held_kept form s sound base r is).0.no_later v here
         | inr there ↦ later there
       ]
 
@@ -92,7 +66,7 @@ module _ {K : Type 0} (form : Form K) (s : State K) (sound : IsSound form s) whe
   no_later_by_last : (item v : Name) (o : Option Rev) → last_of s.trail item ≡ o → in_some by_base o v ≡ true → IsNoLater s.id s.issued v
   no_later_by_last item v None is in' = cc in'
   no_later_by_last item v (Some l) is in' =
-      no_later_up_to l (found_has (λ l. AreNoLater s.id s.issued l.version l.below) (λ l. name_eq l.item item) s.trail l sound.trail_issued.no_later is).0 v in'
+      no_later_up_to l (found_has (IsKept (form.known s.knowledge) s.id s.issued) (λ l. name_eq l.item item) s.trail l sound.trail is).0.no_later v in'
 
   -- all that a version with these bases supersedes was issued before, where it is of the own ones
   below_no_later : (item : Name) (bases : List Name) (v : Name) → below_for s item bases v ≡ true → IsNoLater s.id s.issued v
@@ -115,9 +89,7 @@ module _ {K : Type 0} (form : Form K) (s : State K) (sound : IsSound form s) whe
   has_item_by : (b : Name) (rest : List Rev) (last : Option Rev) (new : Name) (o : Option Rev) → held s b ≡ o → is_none o ≡ false
       → filled_below (by_bases (cons_option o rest)) last new (option_map_or (λ r. r.item) o b) ≡ true
   has_item_by b rest last new None is held_one = cc held_one
-  has_item_by b rest last new (Some r) is held_one =
-      let of : IsRevision r.item r.version r.below = (found_has (λ r. IsRevision r.item r.version r.below) (λ r. name_eq r.version b) (s.heads ++ s.push_outs) r held_are is).0 in
-      rw (has_first r of) refl
+  has_item_by b rest last new (Some r) is held_one = rw (has_first r (held_kept form s sound b r is).0.is) refl
 
   -- an admitted edit supersedes the item's first version
   below_has_item : (bases : List Name) → edit_refusal s bases ≡ None → below_for s (edited_item s bases) bases (edited_item s bases) ≡ true

@@ -1,46 +1,16 @@
 -- over a form with one value for each knowledge a step is a function: its answer and the new replica are decided, memory aside
 use Rattle.std.proofs.Common.{◌≡◌, ◌≢◌, refl, sym, ap, ◌∙◌, ℕ, List, [], ◌∷◌, Option, None, Result, Ok, Err, inl, inr, arith}
-use Rattle.std.specs.List.{All}
-use Rattle.std.proofs.lemmas.List.Elements.{All-head, All-tail}
-use Rattle.mr_version.specs.Name.{Name}
-use Rattle.mr_forms.specs.Known.{Form, AreSame}
-use Rattle.mr_concise.specs.declared.vector.AuthorColumn.{AuthorColumn}
-use Rattle.mr_madewith.specs.Revision.{Rev}
-use Rattle.mr_madewith.proofs.MadeWithLemmas.{columns_unique}
-use Rattle.mr_session.specs.Table.{Table}
-use Rattle.mr_session.specs.Stream.{Stream}
-use Rattle.mr_session.proofs.DrawnLemmas.{gives_unique}
-use Rattle.mr_wire.specs.Values.{DescentParts}
-use Rattle.mr_wire.specs.Frames.{Question, Sent}
-use Rattle.mr_wire.specs.declared.frame.Receipt.{Receipt}
-use Rattle.mr_wire.specs.declared.frame.Frame.{Frame}
-use Rattle.mr_wire.specs.declared.frame.Frame.TheVariants.{Record}
-use Rattle.mr_wire.specs.declared.frame.Body.{Body}
-use Rattle.mr_wire.specs.declared.frame.Body.TheVariants.{Item, MoveOut, End}
-use Rattle.mr_session.specs.Session.{Session}
-use Rattle.mr_replica.specs.Forged.{line_of}
-use Rattle.mr_replica.specs.Receive.{session_for, entering, moved_on, learning, TakesLine, EndsSession, TakesBody, TakesFrame}
-use Rattle.mr_replica.specs.State.{State}
-use Rattle.mr_replica.specs.Issue.{Issue, Wanted, Wanted.Vector, Wanted.Knowledge, below_of_issue, Fits, HasFault, FirstFault, revision_for, issuing, logged, Issues}
-use Rattle.mr_replica.specs.Create.{created}
-use Rattle.mr_replica.specs.Edit.{edited}
-use Rattle.mr_replica.specs.Fragments.{HasHoleyPart}
-use Rattle.mr_wire.specs.Values.{Piece}
-use Rattle.mr_wire.specs.declared.frame.Mode.{Mode}
-use Rattle.mr_wire.specs.declared.frame.Mode.TheVariants.{Full, Partial}
-use Rattle.mr_replica.specs.Answer.{mode_for, Keeps, KeepsHoley, answering}
+use Rattle.mr_replica.proofs.Names.{All, All-head, All-tail, Answer, Answers, AreSame, Asked, AuthorColumn, Body, Changes, Create, CutIn, CutOut}
+use Rattle.mr_replica.proofs.Names.{DescentParts, Done, Edit, End, EndsSession, Event, Finished, FirstFault, Fits, Form, Frame, Full, Gave, HasFault}
+use Rattle.mr_replica.proofs.Names.{HasHoleyPart, IsReceiptFor, Issue, Issued, Issues, Item, Keeps, KeepsHoley, Known, Mode, MoveOut, Name, Next, OutOfMemory}
+use Rattle.mr_replica.proofs.Names.{Partial, Piece, Pull, Question, Receipt, Receive, Record, Refusal, RefusesLate, Release, Reply, Retire, Rev, Sent}
+use Rattle.mr_replica.proofs.Names.{Session, State, Steps, Stream, Streaming, Table, TakesBody, TakesFrame, TakesLine, TooManyHoles, TooManyItems, Took}
+use Rattle.mr_replica.proofs.Names.{Vouch, Vouched, Wanted, Wanted.Knowledge, Wanted.Vector, answering, below_of_issue, columns_unique, created, edited}
+use Rattle.mr_replica.proofs.Names.{entering, first_refusal, gives_unique, held_now, issuing, learning, line_of, logged, mode_for, moved_on, receipt_for}
+use Rattle.mr_replica.proofs.Names.{revision_for, session_for, wanted_by}
 use Rattle.mr_replica.proofs.Kept.{pieces_unique, no_holey}
-use Rattle.mr_replica.specs.Next.{held_now}
-use Rattle.mr_replica.specs.Vouch.{receipt_for, IsReceiptFor}
 use Rattle.mr_replica.proofs.Choice.{some_same}
 use Rattle.mr_replica.proofs.PullLemmas.{same_ask}
-use Rattle.mr_replica.specs.Step.{first_refusal, wanted_by, RefusesLate, Changes, Answers, Steps}
-use Rattle.mr_replica.specs.declared.event.Event.{Event}
-use Rattle.mr_replica.specs.declared.event.Event.TheVariants.{Create, Edit, Retire, Pull, Receive, CutIn, Answer, Next, CutOut, Vouch, Release}
-use Rattle.mr_replica.specs.declared.event.Reply.{Reply}
-use Rattle.mr_replica.specs.declared.event.Reply.TheVariants.{Issued, Done, Asked, Streaming, Gave, Took, Known, Finished, Vouched}
-use Rattle.mr_replica.specs.declared.refusal.Refusal.{Refusal}
-use Rattle.mr_replica.specs.declared.refusal.Refusal.TheVariants.{OutOfMemory, TooManyHoles, TooManyItems}
 use Rattle.mr_replica.proofs.Replies.{GoesOn}
 
 module _ {K : Type 0} (form : Form K) where
@@ -182,42 +152,33 @@ module _ {K : Type 0} (form : Form K) where
       let same = same_issue s (Create message) (created s message) v w new other exact h k in
       (issued_same v w same.0, same.1)
   same_change s (Create message) (Issued v) q new other exact h k = absurd k
-  same_change s (Create message) r q new other exact h k = absurd h
   same_change s (Edit bases message) (Issued v) (Issued w) new other exact h k =
       let same = same_issue s (Edit bases message) (edited s bases message) v w new other exact h k in
       (issued_same v w same.0, same.1)
   same_change s (Edit bases message) (Issued v) q new other exact h k = absurd k
-  same_change s (Edit bases message) r q new other exact h k = absurd h
   same_change s (Vouch version) (Vouched a) (Vouched b) new other exact h k =
       (ap (λ (x : Receipt). Vouched x) (same_receipt s version a b h.0 k.0), k.1 ∙ sym h.1)
   same_change s (Vouch version) (Vouched a) q new other exact h k = absurd k
-  same_change s (Vouch version) r q new other exact h k = absurd h
   same_change s (Answer ask) (Streaming n) (Streaming m) new other exact h k =
       let know : k.1 ≡ h.1 = know_one (mode_for s ask) s.knowledge k.1 h.1 k.2 h.2 in
       (streaming_same n m (k.0 ∙ sym h.0), k.3 ∙ ap (λ (pieces : List Piece). logged (answering s ask pieces) (Answer ask)) know ∙ sym h.3)
   same_change s (Answer ask) (Streaming n) q new other exact h k = absurd k
-  same_change s (Answer ask) r q new other exact h k = absurd h
   same_change s (Receive frame) r q new other exact h k = same_taken s frame r q new other exact h k
   same_change s Retire Done Done new other exact h k = (refl, k ∙ sym h)
   same_change s Retire Done q new other exact h k = absurd k
-  same_change s Retire r q new other exact h k = absurd h
   same_change s Pull (Asked a) (Asked b) new other exact h k = (ap (λ (q : Question). Asked q) (same_ask form s a b h.0 k.0), k.1 ∙ sym h.1)
   same_change s Pull (Asked a) q new other exact h k = absurd k
-  same_change s Pull r q new other exact h k = absurd h
   same_change s (CutIn session) Done Done new other exact h k = (refl, k ∙ sym h)
   same_change s (CutIn session) Done q new other exact h k = absurd k
-  same_change s (CutIn session) r q new other exact h k = absurd h
   same_change s (Next stream) (Gave a) (Gave b) new other exact h k =
       let one = gives_unique s.id stream s.streams (held_now s) a b h.0 k.0 h.1 k.1 in
       (gave_same a b one.0, k.2 ∙ ap (λ (t : Table Stream). logged (record s { streams = t }) (Next stream)) one.1 ∙ sym h.2)
   same_change s (Next stream) (Gave a) q new other exact h k = absurd k
-  same_change s (Next stream) r q new other exact h k = absurd h
   same_change s (CutOut stream) Done Done new other exact h k = (refl, k ∙ sym h)
   same_change s (CutOut stream) Done q new other exact h k = absurd k
-  same_change s (CutOut stream) r q new other exact h k = absurd h
   same_change s (Release receipt) Done Done new other exact h k = (refl, k ∙ sym h)
   same_change s (Release receipt) Done q new other exact h k = absurd k
-  same_change s (Release receipt) r q new other exact h k = absurd h
+  same_change s event r q new other exact h k = absurd h
 
   answered : (s : State K) (event : Event) (a b : Result Reply Refusal) (new other : State K) → IsExact → Answers form s event a new → Answers form s event b other → a ≢ Err OutOfMemory → b ≢ Err OutOfMemory → (b ≡ a) × (other ≡ new)
   answered s event (Ok r) (Ok q) new other exact h k na nb =

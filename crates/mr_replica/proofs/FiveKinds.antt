@@ -1,35 +1,13 @@
 -- What an admitted event changes: one of five kinds of change of what is known and held, and a turn each of the sessions and the streams.
-use Rattle.std.proofs.Common.{◌≡◌, ◌≢◌, refl, sym, ap, subst, append-nil, ℕ, Bool, true, false, List, Option, Some, None, arith}
-use Rattle.mr_version.specs.Name.{Name}
-use Rattle.mr_forms.specs.Known.{Form, AreSame, with_pairs}
-use Rattle.mr_concise.specs.declared.vector.AuthorColumn.{AuthorColumn}
-use Rattle.mr_madewith.specs.MadeWith.{AreColumnsOf}
-use Rattle.mr_madewith.specs.Revision.{Rev}
-use Rattle.mr_session.specs.Session.{Session, is_full, new_session, with_taken}
-use Rattle.mr_session.specs.Stream.{Stream, GivesIn, claimed, new_stream}
-use Rattle.mr_session.specs.Table.{Table, with_opened, with_closed}
-use Rattle.mr_wire.specs.Frames.{Question, Sent}
-use Rattle.mr_wire.specs.Values.{DescentParts, Piece}
-use Rattle.mr_wire.specs.declared.frame.Body.{Body}
+use Rattle.std.proofs.Common.{◌≡◌, ◌≢◌, ◌⊎◌, refl, sym, ap, subst, append-nil, ℕ, Bool, true, false, List, Option, Some, None, inl, inr, arith}
+use Rattle.mr_replica.proofs.Names.{Answer, AreColumnsOf, AreSame, AuthorColumn, Body, Changes, Create, CutIn, CutOut, DescentParts, Edit, Ends, EndsSession}
+use Rattle.mr_replica.proofs.Names.{Event, FeedGrows, Form, Frame, GivesIn, Issue, Issues, Keeps, Name, Next, Piece, Pull, PushOutFeedGrows, Question}
+use Rattle.mr_replica.proofs.Names.{Receipt, Receive, Release, Reply, Retire, Rev, Sent, Session, State, Stream, Table, TakesBody, TakesFrame, TakesLine}
+use Rattle.mr_replica.proofs.Names.{Vouch, asked_of, below_of_issue, claimed, created, edited, ending, entering, held_now, is_full, issuing, learning}
+use Rattle.mr_replica.proofs.Names.{line_learned, line_of, logged, mode_for, new_session, new_stream, releasing, revision_for, session_for, told_line}
+use Rattle.mr_replica.proofs.Names.{version_learned, with_closed, with_opened, with_pairs, with_taken}
 use Rattle.mr_wire.specs.declared.frame.Body.TheVariants as body
-use Rattle.mr_wire.specs.declared.frame.Frame.{Frame}
 use Rattle.mr_wire.specs.declared.frame.Frame.TheVariants as frame
-use Rattle.mr_wire.specs.declared.frame.Receipt.{Receipt}
-use Rattle.mr_replica.specs.State.{State}
-use Rattle.mr_replica.specs.Answer.{Keeps, asked_of, mode_for}
-use Rattle.mr_replica.specs.Create.{created}
-use Rattle.mr_replica.specs.Edit.{edited}
-use Rattle.mr_replica.specs.Forged.{line_of}
-use Rattle.mr_replica.specs.Growing.{FeedGrows, PushOutFeedGrows}
-use Rattle.mr_replica.specs.Issue.{Issue, Issues, below_of_issue, issuing, logged, revision_for, version_learned}
-use Rattle.mr_replica.specs.Next.{held_now}
-use Rattle.mr_replica.specs.Receive.{Ends, EndsSession, TakesBody, TakesFrame, TakesLine, ending, entering, learning, line_learned, session_for}
-use Rattle.mr_replica.specs.Release.{releasing}
-use Rattle.mr_replica.specs.Step.{Changes}
-use Rattle.mr_replica.specs.inner.Taking.{told_line}
-use Rattle.mr_replica.specs.declared.event.Event.{Event}
-use Rattle.mr_replica.specs.declared.event.Event.TheVariants.{Create, Edit, Retire, Pull, Receive, CutIn, Answer, Next, CutOut, Vouch, Release}
-use Rattle.mr_replica.specs.declared.event.Reply.{Reply}
 use Rattle.mr_replica.specs.declared.event.Reply.TheVariants as reply
 
 module _ {K : Type 0} (form : Form K) (s : State K) where
@@ -65,34 +43,35 @@ module _ {K : Type 0} (form : Form K) (s : State K) where
     pub sessions : SessionsTurn event new.sessions
     pub streams : StreamsTurn new.streams
     pub is : new ≡ logged (record to { sessions = new.sessions; streams = new.streams }) event
+    pub retired : (event ≡ Retire) ⊎ (new.is_retired ≡ s.is_retired)
     pub gives : (sent : Sent) → told ≡ reply.Gave sent → (number : ℕ) × GivesIn s.id number s.streams (held_now s) sent new.streams
 
   -- ---- the kind of each event's change
 
   -- a change of this kind, with these turns, by an event that gives no record
-  made : (event : Event) (told : Reply) (new to : State K) (sessions : Table Session) (streams : Table Stream) → ((sent : Sent) → told ≢ reply.Gave sent) → Kind event to → SessionsTurn event sessions → StreamsTurn streams →
-      new ≡ logged (record to { sessions = sessions; streams = streams }) event → Made event told new
-  made event told new to sessions streams none kind in_turn out_turn is =
-      subst (Made event told) (sym is) (record { to = to; kind = kind; sessions = in_turn; streams = out_turn; is = refl; gives = λ sent e. absurd (none sent e) })
+  made : (event : Event) (told : Reply) (new to : State K) (sessions : Table Session) (streams : Table Stream) → ((sent : Sent) → told ≢ reply.Gave sent) → (event ≡ Retire) ⊎ (to.is_retired ≡ s.is_retired) → Kind event to → SessionsTurn event sessions
+      → StreamsTurn streams → new ≡ logged (record to { sessions = sessions; streams = streams }) event → Made event told new
+  made event told new to sessions streams none retired kind in_turn out_turn is =
+      subst (Made event told) (sym is) (record { to = to; kind = kind; sessions = in_turn; streams = out_turn; is = refl; retired = retired; gives = λ sent e. absurd (none sent e) })
 
   issue_made : (i : Issue) (v : Name) (event : Event) (new : State K) → Issues form s i v event new → Made event (reply.Issued v) new
   issue_made i v event new h =
-      made event (reply.Issued v) new (issuing s new.knowledge (revision_for s i h.1)) s.sessions s.streams (λ sent e. absurd (cc)) (Issuing i h.1 h.2 h.3 refl) (Same_sessions refl) (Same_streams refl) h.4
+      made event (reply.Issued v) new (issuing s new.knowledge (revision_for s i h.1)) s.sessions s.streams (λ sent e. absurd (cc)) (inr refl) (Issuing i h.1 h.2 h.3 refl) (Same_sessions refl) (Same_streams refl) h.4
 
   line_made : (sent : Sent) (line : DescentParts) → told_line sent.body ≡ Some line → (comer : Option Rev) → entering s sent.body ≡ comer → (told : Reply) (new : State K) → TakesLine form s sent line comer told new → Made (Receive (frame.Record sent)) told new
   line_made sent line tells comer comes reply.Known new h =
-      made (Receive (frame.Record sent)) reply.Known new s (with_taken sent s.sessions) s.streams (λ sent e. absurd (cc)) (Staying s.is_retired refl) (Took_record sent refl refl) (Same_streams refl) h.1
+      made (Receive (frame.Record sent)) reply.Known new s (with_taken sent s.sessions) s.streams (λ sent e. absurd (cc)) (inr refl) (Staying s.is_retired refl) (Took_record sent refl refl) (Same_streams refl) h.1
   line_made sent line tells comer comes reply.Took new h =
-      made (Receive (frame.Record sent)) reply.Took new (learning s new.knowledge line comer) (with_taken sent s.sessions) s.streams (λ sent e. absurd (cc))
+      made (Receive (frame.Record sent)) reply.Took new (learning s new.knowledge line comer) (with_taken sent s.sessions) s.streams (λ sent e. absurd (cc)) (inr refl)
       (Learning sent refl line tells h.1 (ap (λ (o : Option Rev). learning s new.knowledge line o) (sym comes))) (Took_record sent refl refl) (Same_streams refl) h.2
-  line_made sent line tells comer comes told new h = grind (arith, made)
+  line_made sent line tells comer comes told new h = absurd h
 
   end_made : (sent : Sent) (session : Session) → session_for s sent ≡ Some session → (full : Bool) (new : State K) → Ends form s sent session full new → Made (Receive (frame.Record sent)) reply.Finished new
   end_made sent session found true new h =
-      made (Receive (frame.Record sent)) reply.Finished new (ending s new.knowledge session) (with_closed s.sessions sent.header.session) s.streams (λ sent e. absurd (cc))
+      made (Receive (frame.Record sent)) reply.Finished new (ending s new.knowledge session) (with_closed s.sessions sent.header.session) s.streams (λ sent e. absurd (cc)) (inr refl)
       (Ending sent session found h.0 refl) (Closed_session sent.header.session refl) (Same_streams refl) h.1
   end_made sent session found false new h =
-      made (Receive (frame.Record sent)) reply.Finished new s (with_closed s.sessions sent.header.session) s.streams (λ sent e. absurd (cc)) (Staying s.is_retired refl) (Closed_session sent.header.session refl) (Same_streams refl) h
+      made (Receive (frame.Record sent)) reply.Finished new s (with_closed s.sessions sent.header.session) s.streams (λ sent e. absurd (cc)) (inr refl) (Staying s.is_retired refl) (Closed_session sent.header.session refl) (Same_streams refl) h
 
   session_made : (sent : Sent) (session : Option Session) → session_for s sent ≡ session → (new : State K) → EndsSession form s sent session new → Made (Receive (frame.Record sent)) reply.Finished new
   session_made sent None found new h = absurd h
@@ -103,8 +82,8 @@ module _ {K : Type 0} (form : Form K) (s : State K) where
   body_made sent (body.MoveOut line) e told new h = line_made sent line (ap told_line e) None (ap (entering s) e) told new h
   body_made sent body.End e reply.Finished new h = session_made sent (session_for s sent) refl new h
   body_made sent body.End e told new h = absurd h
-  body_made sent b e reply.Took new h = made (Receive (frame.Record sent)) reply.Took new s (with_taken sent s.sessions) s.streams (λ sent e. absurd (cc)) (Staying s.is_retired refl) (Took_record sent refl refl) (Same_streams refl) h
-  body_made sent b e told new h = grind (arith, line_made, session_made, made)
+  body_made sent b e reply.Took new h = made (Receive (frame.Record sent)) reply.Took new s (with_taken sent s.sessions) s.streams (λ sent e. absurd (cc)) (inr refl) (Staying s.is_retired refl) (Took_record sent refl refl) (Same_streams refl) h
+  body_made sent b e told new h = absurd h
 
   frame_made : (f : Frame) (told : Reply) (new : State K) → TakesFrame form s f told new → Made (Receive f) told new
   frame_made (frame.Record sent) told new h = body_made sent sent.body refl told new h
@@ -115,23 +94,24 @@ module _ {K : Type 0} (form : Form K) (s : State K) where
   change_made (Create message) (reply.Issued v) new h = issue_made (created s message) v (Create message) new h
   change_made (Edit bases message) (reply.Issued v) new h = issue_made (edited s bases message) v (Edit bases message) new h
   change_made (Receive f) told new h = frame_made f told new h
-  change_made (Release receipt) reply.Done new h = made (Release receipt) reply.Done new (releasing s receipt) s.sessions s.streams (λ sent e. absurd (cc)) (Releasing receipt refl) (Same_sessions refl) (Same_streams refl) h
-  change_made Retire reply.Done new h = made Retire reply.Done new (record s { is_retired = true }) s.sessions s.streams (λ sent e. absurd (cc)) (Staying true refl) (Same_sessions refl) (Same_streams refl) h
-  change_made (Vouch version) (reply.Vouched receipt) new h = made (Vouch version) (reply.Vouched receipt) new s s.sessions s.streams (λ sent e. absurd (cc)) (Staying s.is_retired refl) (Same_sessions refl) (Same_streams refl) h.1
-  change_made Pull (reply.Asked ask) new h = made Pull (reply.Asked ask) new s (with_opened s.sessions new_session) s.streams (λ sent e. absurd (cc)) (Staying s.is_retired refl) (Opened_session refl) (Same_streams refl) h.1
-  change_made (CutIn session) reply.Done new h = made (CutIn session) reply.Done new s (with_closed s.sessions session) s.streams (λ sent e. absurd (cc)) (Staying s.is_retired refl) (Closed_session session refl) (Same_streams refl) h
-  change_made (CutOut stream) reply.Done new h = made (CutOut stream) reply.Done new s s.sessions (with_closed s.streams stream) (λ sent e. absurd (cc)) (Staying s.is_retired refl) (Same_sessions refl) (Closed_stream stream refl) h
+  change_made (Release receipt) reply.Done new h = made (Release receipt) reply.Done new (releasing s receipt) s.sessions s.streams (λ sent e. absurd (cc)) (inr refl) (Releasing receipt refl) (Same_sessions refl) (Same_streams refl) h
+  change_made Retire reply.Done new h = made Retire reply.Done new (record s { is_retired = true }) s.sessions s.streams (λ sent e. absurd (cc)) (inl refl) (Staying true refl) (Same_sessions refl) (Same_streams refl) h
+  change_made (Vouch version) (reply.Vouched receipt) new h = made (Vouch version) (reply.Vouched receipt) new s s.sessions s.streams (λ sent e. absurd (cc)) (inr refl) (Staying s.is_retired refl) (Same_sessions refl) (Same_streams refl) h.1
+  change_made Pull (reply.Asked ask) new h = made Pull (reply.Asked ask) new s (with_opened s.sessions new_session) s.streams (λ sent e. absurd (cc)) (inr refl) (Staying s.is_retired refl) (Opened_session refl) (Same_streams refl) h.1
+  change_made (CutIn session) reply.Done new h = made (CutIn session) reply.Done new s (with_closed s.sessions session) s.streams (λ sent e. absurd (cc)) (inr refl) (Staying s.is_retired refl) (Closed_session session refl) (Same_streams refl) h
+  change_made (CutOut stream) reply.Done new h = made (CutOut stream) reply.Done new s s.sessions (with_closed s.streams stream) (λ sent e. absurd (cc)) (inr refl) (Staying s.is_retired refl) (Same_sessions refl) (Closed_stream stream refl) h
   change_made (Answer ask) (reply.Streaming stream) new h =
-      made (Answer ask) (reply.Streaming stream) new s s.sessions (with_opened s.streams (new_stream (asked_of ask) (mode_for s ask) h.1)) (λ sent e. absurd (cc)) (Staying s.is_retired refl) (Same_sessions refl) (Opened_stream ask h.1 h.2 refl) h.3
+      made (Answer ask) (reply.Streaming stream) new s s.sessions (with_opened s.streams (new_stream (asked_of ask) (mode_for s ask) h.1)) (λ sent e. absurd (cc)) (inr refl) (Staying s.is_retired refl) (Same_sessions refl) (Opened_stream ask h.1 h.2 refl) h.3
   change_made (Next stream) (reply.Gave sent) new h = subst (Made (Next stream) (reply.Gave sent)) (sym h.2) (record {
     to = s;
     kind = Staying s.is_retired refl;
     sessions = Same_sessions refl;
     streams = Gave_record stream sent h.1;
     is = refl;
+    retired = inr refl;
     gives = λ other e. (let same : sent ≡ other = cc in (stream, subst (λ (x : Sent). GivesIn s.id stream s.streams (held_now s) x h.0) same h.1));
   })
-  change_made event told new h = grind (arith, issue_made, frame_made, made)
+  change_made event told new h = absurd h
 
   -- ---- what each kind leaves, and tells
 

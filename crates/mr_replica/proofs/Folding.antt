@@ -1,23 +1,12 @@
 -- what a subscriber has that went through a feed, as the heads change
 use Rattle.std.proofs.Common.{◌≡◌, Bool, true, false, not, cond, if◌then◌else◌, refl, sym, ap, subst, ◌∙◌, List, [], ◌∷◌, ◌++◌, map, filter, inl, inr, Option, Some, None, is_some, arith}
-use Rattle.std.specs.declared.cmp.Ordering.TheVariants.{Less}
-use Rattle.std.specs.Ordering.{is_eq}
-use Rattle.std.specs.List.{AllByRecursion}
-use Rattle.std.specs.Option.{option_map, IfSome}
-use Rattle.std.proofs.lemmas.List.{map-append}
-use Rattle.mr_version.specs.Name.{Name, name_cmp, name_eq}
+use Rattle.mr_replica.proofs.Names.{Added, AllByRecursion, AreInVersionOrder, Dropped, Entry, IfSome, Less, Name, Rev, added, arrival_alone, arrived, dropped}
+use Rattle.mr_replica.proofs.Names.{entered, head_before, holds, is_before, is_eq, map-append, name_cmp, name_eq, name_eq-swap, name_eq_self, named-filter}
+use Rattle.mr_replica.proofs.Names.{option_map, revision_of, rises-filter, rises-inserted, same_names, sides_of, tail_rises, told_more, unnamed, version_of}
 use Rattle.mr_model.specs.Versions.{is}
 use Rattle.mr_model.specs.History as model
 use Rattle.mr_model.specs.Headline.{Cards, fold, fold_from, no_cards}
 use Rattle.mr_model.proofs.Feeds.{folded-append}
-use Rattle.mr_feed.specs.declared.entry.Entry.{Entry}
-use Rattle.mr_feed.specs.declared.entry.Entry.TheVariants.{Added, Dropped}
-use Rattle.mr_madewith.specs.Revision.{Rev}
-use Rattle.mr_madewith.specs.Keyed.{is_before}
-use Rattle.mr_madewith.proofs.Rising.{name_eq_self, same_names, name_eq-swap, sides_of, unnamed, head_before, tail_rises, rises-filter, rises-inserted, named-filter}
-use Rattle.mr_store.specs.Revisions.{version_of, revision_of, holds, entered, AreInVersionOrder}
-use Rattle.mr_replica.specs.Issue.{dropped, added, if_so, entered_if, told_more}
-use Rattle.mr_replica.specs.Receive.{arrived, arrival_alone}
 use Rattle.mr_replica.specs.Folded.{told_item, AreNews, FoldsTo}
 
 -- ---- the revision of a version, once the heads changed
@@ -172,13 +161,3 @@ folds_on p comer feed heads order new h = grind (arith, shows_on, news_on)
 
 pub in_order_on : (p : Rev → Bool) (comer : Option Rev) (heads : List Rev) → AreInVersionOrder heads → IfSome comer (λ r. revision_of heads r.version ≡ None) → AreInVersionOrder (arrived comer (filter (λ r. not (p r)) heads))
 in_order_on p comer heads order new = grind (arith, rises-filter, rises-inserted, named-filter)
-
--- the same of one that comes if so
-pub folds_issued : (p : Rev → Bool) (b : Bool) (r : Rev) (feed : List Entry) (heads : List Rev) → AreInVersionOrder heads → revision_of heads r.version ≡ None → FoldsTo feed heads
-    → FoldsTo (told_more feed (filter p heads) (if_so b r)) (entered_if b r (filter (λ r. not (p r)) heads))
-folds_issued p true r feed heads order new h = folds_on p (Some r) feed heads order new h
-folds_issued p false r feed heads order new h = folds_on p None feed heads order tt h
-
-pub in_order_issued : (p : Rev → Bool) (b : Bool) (r : Rev) (heads : List Rev) → AreInVersionOrder heads → revision_of heads r.version ≡ None → AreInVersionOrder (entered_if b r (filter (λ r. not (p r)) heads))
-in_order_issued p true r heads order new = in_order_on p (Some r) heads order new
-in_order_issued p false r heads order new = in_order_on p None heads order tt

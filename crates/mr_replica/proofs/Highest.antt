@@ -1,12 +1,9 @@
 -- an author's last counter in a vector, or 0 where it has none, is its column's bound
 use Rattle.std.proofs.Common.{◌≡◌, ℕ, List, Option, Some, None, sym, ◌∙◌, inl, inr, arith}
-use Rattle.std.specs.Option.{MatchOption, unwrap_or}
-use Rattle.std.proofs.lemmas.Bool.{cases_lt, false≢true}
+use Rattle.mr_replica.proofs.Names.{AuthorColumn, IsVectorFrom, MatchOption, bound-is_last, cases_lt, column_has-above, column_of, false≢true, unwrap_or}
+use Rattle.mr_replica.proofs.Names.{vector_has}
 use Rattle.mr_forms.specs.Runs.{HasNoneOf}
-use Rattle.mr_concise.specs.declared.vector.AuthorColumn.{AuthorColumn}
 use Rattle.mr_concise.specs.Last.{IsLast}
-use Rattle.mr_concise.specs.Vector.{column_of, vector_has, IsVectorFrom}
-use Rattle.mr_concise.proofs.LastLemmas.{bound-is_last, column_has-above}
 
 pub last_is_bound : (columns : List AuthorColumn) (q : ℕ) (last : Option ℕ) → IsVectorFrom 0 columns → MatchOption last (HasNoneOf (vector_has columns) q) (IsLast (vector_has columns) q) → unwrap_or last 0 ≡ (column_of columns q).upto
 last_is_bound columns q None vector none =

@@ -1,27 +1,10 @@
 -- the pieces of a knowledge: frames may carry them, and there is one list of them
 use Rattle.std.proofs.Common.{◌≡◌, refl, sym, ap, subst, ◌∙◌, arith, List, [], ◌∷◌, map, Option, Some, None}
-use Rattle.std.specs.List.{All, AllZip, Any, AllByRecursion}
+use Rattle.mr_replica.proofs.Names.{All, All-cons, All-contains, All-head, All-nil, All-tail, AllByRecursion, AllZip, Any, AreItems, AreListable, ArePiecesOf}
+use Rattle.mr_replica.proofs.Names.{AuthorColumn, Contains-map, Fragment, HasHoleyPart, HasTooManyHoles, IfSome, IsPieceOf, IsTooHoley, IsVectorOf, ItemsRise}
+use Rattle.mr_replica.proofs.Names.{Less, Name, Part, Piece, Versions, columns_unique, few-vector, is_lt, listed_items, name_cmp, part_of, parts_that-unique}
 use Rattle.std.specs.List.Sorted.{IsStrictlySortedBy}
-use Rattle.std.specs.Option.{IfSome}
-use Rattle.std.specs.Ordering.{is_lt}
 use Rattle.std.specs.declared.cmp.Ordering.{Ordering}
-use Rattle.std.specs.declared.cmp.Ordering.TheVariants.{Less}
-use Rattle.std.proofs.lemmas.List.Elements.{All-nil, All-cons, All-head, All-tail, All-contains}
-use Rattle.mr_version.specs.Name.{Name, name_cmp}
-use Rattle.mr_forms.specs.declared.fragment.Fragment.{Fragment}
-use Rattle.mr_forms.specs.Sets.{Versions}
-use Rattle.mr_forms.specs.Covered.{listed_items}
-use Rattle.mr_forms.specs.Known.{Part}
-use Rattle.mr_forms.specs.Parts.{part_of, AreListable}
-use Rattle.mr_forms.proofs.PartLemmas.{Contains-map, parts_that-unique}
-use Rattle.mr_concise.specs.declared.vector.AuthorColumn.{AuthorColumn}
-use Rattle.mr_concise.specs.Vector.{IsVectorOf, HasTooManyHoles}
-use Rattle.mr_concise.specs.Fragments.{IsTooHoley}
-use Rattle.mr_concise.proofs.VersionLemmas.{few-vector}
-use Rattle.mr_madewith.proofs.MadeWithLemmas.{columns_unique}
-use Rattle.mr_wire.specs.Values.{Piece, ItemsRise, AreItems}
-use Rattle.mr_replica.specs.Fragments.{HasHoleyPart}
-use Rattle.mr_replica.specs.Pieces.{IsPieceOf, ArePiecesOf}
 
 -- ---- what a form lists, a frame may
 
@@ -66,14 +49,13 @@ piece_one part a b h k =
 
 pub pieces_one : (parts : List Part) (xs ys : List Piece) → AllZip IsPieceOf parts xs → AllZip IsPieceOf parts ys → xs ≡ ys
 pieces_one [] [] [] h k = refl
-pieces_one [] (x ∷ xs) ys h k = absurd h
 pieces_one [] [] (y ∷ ys) h k = absurd k
-pieces_one (p ∷ ps) [] ys h k = absurd h
 pieces_one (p ∷ ps) (x ∷ xs) [] h k = absurd k
 pieces_one (p ∷ ps) (x ∷ xs) (y ∷ ys) h k =
     let first : x ≡ y = piece_one p x y h.0 k.0 in
     let rest : xs ≡ ys = pieces_one ps xs ys h.1 k.1 in
     λ i. first i ∷ rest i
+pieces_one ps xs ys h k = absurd h
 
 module _ (is_part : Part → Type 0) where
   pub pieces_unique : (xs ys : List Piece) → ArePiecesOf is_part xs → ArePiecesOf is_part ys → xs ≡ ys
@@ -84,10 +66,9 @@ module _ (is_part : Part → Type 0) where
   -- a part that has a piece has few holes
   few_in : (parts : List Part) (xs : List Piece) → AllZip IsPieceOf parts xs → All (λ p. ¬ HasTooManyHoles p.versions) parts
   few_in [] [] h = All-nil (λ (p : Part). ¬ HasTooManyHoles p.versions)
-  few_in [] (x ∷ xs) h = absurd h
-  few_in (p ∷ ps) [] h = absurd h
   few_in (p ∷ ps) (x ∷ xs) h =
       All-cons (λ (p : Part). ¬ HasTooManyHoles p.versions) p ps (few-vector x.vector p.versions h.0.versions.columns_ok h.0.versions.has) (few_in ps xs h.1)
+  few_in ps xs h = absurd h
 
   pub no_holey : (xs : List Piece) → ArePiecesOf is_part xs → HasHoleyPart is_part → ⊥
   no_holey xs h holey =

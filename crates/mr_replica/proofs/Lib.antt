@@ -1,10 +1,10 @@
+pub mod Names
 pub mod FragmentLemmas
 pub mod Choice
 pub mod Below
 pub mod Staying
 pub mod Folding
 pub mod Keeping
-pub mod Issuing
 pub mod Highest
 pub mod Taking
 pub mod Told
@@ -14,9 +14,6 @@ pub mod PullLemmas
 pub mod Answered
 pub mod PieceLemmas
 pub mod Kept
-pub mod Opening
-pub mod Drawing
-pub mod Advancing
 pub mod Preparing
 pub mod Replies
 pub mod Decided

@@ -1,27 +1,12 @@
 -- fragments that are merged one after the other
 use Rattle.std.proofs.Common.{◌≡◌, ◌&&◌, ◌||◌, IsErrOf, IfErr, Bool, false, not, refl, sym, ap, subst, ◌∙◌, List, [], ◌∷◌, map, Result, inl, inr, arith}
-use Rattle.std.specs.List.{All}
-use Rattle.std.proofs.lemmas.List.Elements.{All-nil, All-cons, All-head, All-tail}
-use Rattle.mr_version.specs.Name.{Name}
-use Rattle.mr_forms.specs.declared.fragment.ItemSet.{ItemSet}
-use Rattle.mr_forms.specs.Covered.{has_item, covered, all_covered}
-use Rattle.mr_forms.specs.Known.{Pairs, Form, AreSame, HasValue, with_pairs}
+use Rattle.mr_replica.proofs.Names.{All, All-cons, All-head, All-nil, All-tail, AreSame, ConciseFragment, FirstFault, FirstFits, Fits, Form, FormFault}
+use Rattle.mr_replica.proofs.Names.{HasValue, ItemSet, Name, Pairs, Piece, RefusesMerged, Rev, Session, Wanted, Wanted.Knowledge, all_covered, claimed}
+use Rattle.mr_replica.proofs.Names.{covered, has_item, in_any, is_unheld, lists, merged_by, piece_of, refusal_of, vector_has, with_pairs}
 use Rattle.mr_forms.specs.Merged.{after_each, FirstHasValue, AreOverHolesInTurn, AreOverItemsInTurn}
-use Rattle.mr_forms.specs.declared.fault.FormFault.{FormFault}
 use Rattle.mr_forms.specs.declared.fault.FormFault.TheVariants as fault
-use Rattle.mr_concise.specs.Fragments.{ConciseFragment}
-use Rattle.mr_concise.specs.Vector.{vector_has}
-use Rattle.mr_wire.specs.Values.{Piece, piece_of, listed_items}
-use Rattle.mr_concise.specs.AnyOf.{in_any}
-use Rattle.mr_madewith.specs.Revision.{Rev}
+use Rattle.mr_wire.specs.Values.{listed_items}
 use Rattle.mr_store.specs.Unheld.{is_unheld as covers_unheld}
-use Rattle.mr_session.specs.Session.{Session}
-use Rattle.mr_session.specs.Stream.{lists, claimed}
-use Rattle.mr_replica.specs.Refusal.{refusal_of}
-use Rattle.mr_replica.specs.Issue.{Wanted, Wanted.Knowledge, Fits, FirstFault}
-use Rattle.mr_replica.specs.Wanting.{FirstFits}
-use Rattle.mr_replica.specs.Receive.{merged_by, is_unheld}
-use Rattle.mr_replica.specs.inner.Taking.{RefusesMerged}
 
 -- pairs that are the same are one
 pub one_pairs : (s t : Pairs) → AreSame s t → s ≡ t

@@ -1,26 +1,17 @@
 -- Replicas that are alike, and whose knowledge is one value, are equal.
-use Rattle.std.proofs.Common.{◌≡◌, ℕ, List, arith}
-use Rattle.mr_filter.specs.Filter.{ClauseParts}
-use Rattle.mr_forms.specs.ByMeaning.{IsByMeaning, AreOneValue}
-use Rattle.mr_forms.specs.Known.{Form}
-use Rattle.mr_replica.specs.State.{State}
-use Rattle.mr_replica.specs.Replay.{Replays, IsItsLog}
-use Rattle.mr_replica.specs.declared.event.Event.{Event}
+use Rattle.std.proofs.Common.{arith}
+use Rattle.mr_replica.proofs.Names.{AreOneValue, Form, IsByMeaning, IsItsLog, State}
 use Rattle.mr_replica.proofs.Alike.{alike_step, alike_replays}
+use Rattle.mr_replica.proofs.Replaying.{replays_as}
 use Rattle.mr_replica.specs.One.{AreOneIfAlike, AreOneByLog, AreOneByEvent}
 
 module _ {K : Type 0} (form : Form K) (s t : State K) (one : AreOneValue form s.knowledge t.knowledge) where
   pub equal_if_alike : AreOneIfAlike form s t
   equal_if_alike alike = grind arith
 
-  -- what an id, a filter, a limit and a log come to, the like of them come to
-  replays_like : (id jd : ℕ) (filter gilter : List ClauseParts) (limit mimit : ℕ) (events fvents : List Event) (r : State K) → jd ≡ id → gilter ≡ filter → mimit ≡ limit → fvents ≡ events
-      → Replays form id filter limit events r → Replays form jd gilter mimit fvents r
-  replays_like id jd filter gilter limit mimit events fvents r id_is filter_is limit_is events_are h = rw (id_is, filter_is, limit_is, events_are) h
-
   pub equal_by_log : IsByMeaning form → IsItsLog form s → IsItsLog form t → AreOneByLog form s t
   equal_by_log told h k id filter event_limit log =
-      equal_if_alike (alike_replays form told s.id s.filter s.event_limit s.log s t h (replays_like t.id s.id t.filter s.filter t.event_limit s.event_limit t.log s.log t id filter event_limit log k))
+      equal_if_alike (alike_replays form told s.id s.filter s.event_limit s.log s t h (replays_as form t.id s.id t.filter s.filter t.event_limit s.event_limit t.log s.log t id filter event_limit log k))
 
   pub equal_by_event : IsByMeaning form → AreOneByEvent form s t
   equal_by_event told before others event answer other alike na nb h k =

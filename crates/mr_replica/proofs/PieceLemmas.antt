@@ -1,16 +1,7 @@
 -- how fragments are made pieces, one by one
 use Rattle.std.proofs.Common.{◌≡◌, refl, arith, List, [], ◌∷◌, ◌++◌, length, map, length-append, append_assoc}
-use Rattle.std.specs.List.{AllZip, Any}
+use Rattle.mr_replica.proofs.Names.{AllZip, Any, AreSame, Fragment, IsPieceOf, IsTooHoley, Piece, Versions, all_covered, claimed, part_of}
 use Rattle.std.proofs.Math.Seq.{get_or-append_seam}
-use Rattle.mr_forms.specs.declared.fragment.Fragment.{Fragment}
-use Rattle.mr_forms.specs.Sets.{Versions}
-use Rattle.mr_forms.specs.Covered.{all_covered}
-use Rattle.mr_forms.specs.Known.{AreSame}
-use Rattle.mr_forms.specs.Parts.{part_of}
-use Rattle.mr_concise.specs.Fragments.{IsTooHoley}
-use Rattle.mr_session.specs.Stream.{claimed}
-use Rattle.mr_wire.specs.Values.{Piece}
-use Rattle.mr_replica.specs.Pieces.{IsPieceOf}
 use Rattle.mr_replica.proofs.Merging.{lists_same}
 
 module _ {V : Type 0} (has : V → Versions) where
@@ -21,15 +12,13 @@ module _ {V : Type 0} (has : V → Versions) where
   -- they claim what the fragments cover
   pub made_claim : (fs : List (Fragment V)) (ps : List Piece) → AreMade fs ps → AreSame (all_covered has fs) (claimed ps)
   made_claim [] [] made i v = refl
-  made_claim [] (p ∷ ps) made i v = absurd made
-  made_claim (f ∷ fs) [] made i v = absurd made
   made_claim (f ∷ fs) (p ∷ ps) made i v = grind (arith, made_claim fs ps made.1 i v, lists_same)
+  made_claim fs ps made i v = absurd made
 
   made_last : (fs : List (Fragment V)) (ps : List Piece) (f : Fragment V) (p : Piece) → AreMade fs ps → IsPieceOf (part_of has f) p → AreMade (fs ++ f ∷ []) (ps ++ p ∷ [])
   made_last [] [] f p all is = (is, tt)
-  made_last [] (q ∷ ps) f p all is = absurd all
-  made_last (g ∷ fs) [] f p all is = absurd all
   made_last (g ∷ fs) (q ∷ ps) f p all is = (all.0, made_last fs ps f p all.1 is)
+  made_last fs ps f p all is = absurd all
 
   -- How far fragments are made pieces: those before the ones that are left.
   pub record PiecesSoFar (all yielded left : List (Fragment V)) (pieces : List Piece) : Type 0 where

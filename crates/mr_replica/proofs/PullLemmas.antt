@@ -1,28 +1,10 @@
 -- what a request may carry, and that there is one request
 use Rattle.std.proofs.Common.{◌≡◌, ◌≤◌, ◌<◌, ◌+◌, ℕ, zero, suc, true, refl, sym, ap, subst, ◌∙◌, arith, List, [], ◌∷◌, ◌++◌, take, map, length, Option, Some, None, IfSome}
-use Rattle.std.specs.List.{All, AllZip, AllPairs}
-use Rattle.std.proofs.lemmas.List.{length_push, length-append, append_assoc}
+use Rattle.mr_replica.proofs.Names.{All, All-cons, All-head, All-nil, All-tail, AllPairs, AllPairs-head, AllPairs-tail, AllZip, AreAsked, AreItems}
+use Rattle.mr_replica.proofs.Names.{AreListable, ComesFirst, ConciseFragment, Form, FragmentsRise, IsAskOf, IsLongestWithin, IsPieceOf, IsQuestion}
+use Rattle.mr_replica.proofs.Names.{MAX_ASKED_BYTES, Name, Pairs, Part, Piece, Question, State, append_assoc, fragment_bytes, items_bytes, least_follows}
+use Rattle.mr_replica.proofs.Names.{least_item, length-append, piece_of, total_len, vector_bytes}
 use Rattle.std.proofs.lemmas.List.Sums.{sum_by_push, sum_by-cons}
-use Rattle.std.proofs.lemmas.List.Elements.{All-nil, All-cons, All-head, All-tail, All-push}
-use Rattle.mr_version.specs.Name.{Name}
-use Rattle.mr_forms.specs.Known.{Pairs, Part, Form}
-use Rattle.mr_forms.specs.Parts.{AreListable, ComesFirst}
-use Rattle.mr_forms.proofs.PartLemmas.{AllPairs-head, AllPairs-tail}
-use Rattle.mr_concise.specs.Fragments.{ConciseFragment}
-use Rattle.mr_session.specs.Table.{Numbered}
-use Rattle.mr_session.specs.Session.{Session, new_session}
-use Rattle.mr_wire.specs.Values.{Piece, piece_of, AreItems, least_item}
-use Rattle.mr_wire.specs.Frames.{FragmentsRise, IsQuestion, Question, least_follows}
-use Rattle.mr_wire.specs.Encoding.{total_len}
-use Rattle.mr_wire.specs.Spelling.{fragment_bytes, items_bytes, vector_bytes}
-use Rattle.mr_replica.specs.State.{State}
-use Rattle.mr_replica.specs.inner.Sound.{IsSound}
-use Rattle.mr_replica.specs.Issue.{logged}
-use Rattle.mr_replica.specs.Pieces.{IsPieceOf}
-use Rattle.mr_replica.specs.Pull.{IsLongestWithin, AreAsked, IsAskOf, pulling}
-use Rattle.mr_wire.specs.declared.frame.TheConstants.{MAX_ASKED_BYTES}
-use Rattle.mr_replica.specs.declared.event.Event.{Event}
-use Rattle.mr_replica.proofs.Keeping.{within_later}
 use Rattle.mr_replica.proofs.Kept.{may_list, pieces_unique}
 
 -- ---- a frame carries the fragments of parts
@@ -30,12 +12,11 @@ use Rattle.mr_replica.proofs.Kept.{may_list, pieces_unique}
 -- the fragments of listable parts have items that a frame carries
 pub parts_carried : (ps : List Part) (fs : List ConciseFragment) → AllZip IsPieceOf ps (map piece_of fs) → All (λ p. IfSome p.items AreListable) ps → All (λ f. AreItems (piece_of f).items) fs
 parts_carried [] [] are h = All-nil (λ (f : ConciseFragment). AreItems (piece_of f).items)
-parts_carried [] (f ∷ fs) are h = absurd are
-parts_carried (p ∷ ps) [] are h = absurd are
 parts_carried (p ∷ ps) (f ∷ fs) are h =
     All-cons (λ (f : ConciseFragment). AreItems (piece_of f).items) f fs
     (subst AreItems (sym are.0.items) (may_list p.items (All-head (λ (p : Part). IfSome p.items AreListable) p ps h)))
     (parts_carried ps fs are.1 (All-tail (λ (p : Part). IfSome p.items AreListable) p ps h))
+parts_carried ps fs are h = absurd are
 
 -- the least items of parts in order
 follows : (a b : Option (List Name)) → IfSome b AreListable → ComesFirst a b → least_follows (Some (least_item a)) (least_item b) ≡ true
@@ -49,18 +30,16 @@ Before p q = ComesFirst p.items q.items
 
 rise_behind : (p : Part) (ps : List Part) (fs : List Piece) → AllZip IsPieceOf ps fs → All Listable ps → All (Before p) ps → AllPairs Before ps → FragmentsRise (Some (least_item p.items)) fs
 rise_behind p [] [] are ok above order = tt
-rise_behind p [] (f ∷ fs) are ok above order = absurd are
-rise_behind p (q ∷ qs) [] are ok above order = absurd are
 rise_behind p (q ∷ qs) (f ∷ fs) are ok above order =
     rw are.0.items
     (follows p.items q.items (All-head Listable q qs ok) (All-head (Before p) q qs above), rise_behind q qs fs are.1 (All-tail Listable q qs ok) (AllPairs-head Before q qs order) (AllPairs-tail Before q qs order))
+rise_behind p qs fs are ok above order = absurd are
 
 parts_rise : (ps : List Part) (fs : List Piece) → AllZip IsPieceOf ps fs → All Listable ps → AllPairs Before ps → FragmentsRise None fs
 parts_rise [] [] are ok order = tt
-parts_rise [] (f ∷ fs) are ok order = absurd are
-parts_rise (q ∷ qs) [] are ok order = absurd are
 parts_rise (q ∷ qs) (f ∷ fs) are ok order =
     rw are.0.items (refl, rise_behind q qs fs are.1 (All-tail Listable q qs ok) (AllPairs-head Before q qs order) (AllPairs-tail Before q qs order))
+parts_rise qs fs are ok order = absurd are
 
 -- so does a beginning of them
 rise_take : (n : ℕ) (before : Option (Option Name)) (ps : List Piece) → FragmentsRise before ps → FragmentsRise before (take n ps)
@@ -146,29 +125,3 @@ same_ask form s a b h k =
     let filter : b.filter ≡ a.filter = k.filter ∙ sym h.filter in
     let fragments : b.fragments ≡ a.fragments = same_asked (form.is_part s.knowledge) (form.known s.knowledge) b.fragments a.fragments k.fragments h.fragments in
     λ i. record { target = target i; session = session i; filter = filter i; fragments = fragments i }
-
--- ---- the session
-
--- the replica keeps what it keeps
-pub sound_pulled : {K : Type 0} (form : Form K) (s : State K) (event : Event) → IsSound form s → IsSound form (logged (pulling s) event)
-sound_pulled form s event sound =
-    let later = within_later (λ (k : Session). k.next) s.log event s.sessions sound.sessions_within in
-    record {
-      limit_from = sound.limit_from;
-      limit_to = sound.limit_to;
-      issued_few = omega (arith, sound.issued_few, length_push s.log event);
-      heads_in_order = sound.heads_in_order;
-      push_outs_in_order = sound.push_outs_in_order;
-      heads_issued = sound.heads_issued;
-      push_outs_issued = sound.push_outs_issued;
-      trail_issued = sound.trail_issued;
-      heads_known = sound.heads_known;
-      push_outs_known = sound.push_outs_known;
-      sessions_within = record {
-        opened = omega (arith, sound.sessions_within.opened, length_push s.log event);
-        next_few = All-push (λ (x : Numbered Session). x.value.next ≤ length (s.log ++ event ∷ [])) s.sessions.open_ones (record { number = s.sessions.opened + 1; value = new_session }) later.next_few (omega arith);
-      };
-      streams_within = within_later (λ stream. stream.next) s.log event s.streams sound.streams_within;
-      folds = sound.folds;
-      push_outs_fold = sound.push_outs_fold;
-    }

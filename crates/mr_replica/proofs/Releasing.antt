@@ -1,20 +1,8 @@
 -- which receipts are admitted
 use Rattle.std.proofs.Common.{◌≡◌, Bool, true, false, refl, sym, ◌∙◌, List, [], ◌∷◌, map, filter, Some, None, arith}
-use Rattle.std.specs.List.{list_any}
-use Rattle.std.proofs.lemmas.Bool.{cases_Bool}
-use Rattle.mr_version.specs.Name.{Name}
-use Rattle.mr_forms.specs.Sets.{Versions}
-use Rattle.mr_feed.specs.declared.entry.Entry.{Entry}
-use Rattle.mr_feed.specs.declared.entry.Entry.TheVariants.{Dropped}
-use Rattle.mr_madewith.specs.Revision.{Rev}
-use Rattle.mr_madewith.proofs.Rising.{same_names}
-use Rattle.mr_store.specs.Revisions.{versions_of, supersedes}
-use Rattle.mr_wire.specs.declared.frame.Receipt.{Receipt}
-use Rattle.mr_replica.specs.State.{State}
-use Rattle.mr_replica.specs.Admission.{retired, log_full}
-use Rattle.mr_replica.specs.Issue.{dropped}
-use Rattle.mr_replica.specs.Release.{vouched, release_refusal}
-use Rattle.mr_replica.specs.declared.refusal.Refusal.TheVariants.{NotPushedOut}
+use Rattle.mr_replica.proofs.Names.{Dropped, Entry, Name, NotPushedOut, Receipt, Rev, State, Versions, cases_Bool, dropped, list_any, log_full}
+use Rattle.mr_replica.proofs.Names.{release_refusal, same_names, supersedes, versions_of, vouched}
+use Rattle.mr_replica.specs.Admission.{retired}
 
 -- a version of the item leaves the heads, or the push-outs
 abbrev pub gone_of : (item : Name) → Name → Entry

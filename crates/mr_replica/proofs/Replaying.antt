@@ -1,17 +1,9 @@
 -- A replica is its log replayed.
 use Rattle.std.proofs.Common.{◌≡◌, ◌+◌, ℕ, false, List, [], ◌∷◌, ◌++◌, length, Result, Ok, Err, IfOk, IfErr, refl, sym, ap, subst, ◌∙◌, arith, append_assoc, append-nil, length-append}
-use Rattle.mr_filter.specs.Filter.{ClauseParts}
-use Rattle.mr_forms.specs.ByMeaning.{IsByMeaning}
-use Rattle.mr_forms.specs.Known.{Form, AreSame}
-use Rattle.mr_replica.specs.State.{State, new_state}
-use Rattle.mr_replica.specs.Alike.{AreAlike}
-use Rattle.mr_replica.specs.Step.{Changes, Steps}
-use Rattle.mr_replica.specs.Growing.{FeedGrows, PushOutFeedGrows, IsOfSameSetting, admitted}
-use Rattle.mr_replica.specs.Replay.{IsForMemory, Admits, AdmitsAll, StopsAt, IsFresh, Replays, IsReplayFault, IsItsLog}
+use Rattle.mr_replica.proofs.Names.{Admits, AdmitsAll, AreAlike, AreSame, Changes, ClauseParts, Event, FeedGrows, Form, IsByMeaning, IsForMemory, IsFresh}
+use Rattle.mr_replica.proofs.Names.{IsItsLog, IsOfSameSetting, IsReplayFault, PushOutFeedGrows, Refusal, Replays, Reply, State, Steps, StopsAt, new_state}
+use Rattle.mr_replica.specs.Growing.{admitted}
 use Rattle.mr_replica.specs.inner.Replay.{IsStop}
-use Rattle.mr_replica.specs.declared.event.Event.{Event}
-use Rattle.mr_replica.specs.declared.event.Reply.{Reply}
-use Rattle.mr_replica.specs.declared.refusal.Refusal.{Refusal}
 use Rattle.mr_replica.specs.declared.replica.replay.ReplayFault.{ReplayFault}
 use Rattle.mr_replica.specs.declared.replica.replay.ReplayFault.TheVariants.{BadLimit, Refused}
 use Rattle.mr_replica.proofs.Alike.{alike_all, alike_stop, alike_fresh}
@@ -79,7 +71,7 @@ module _ {K : Type 0} (form : Form K) where
   all_log s new (event ∷ events) h = grind (arith, all_log h.0 new events h.2, admits_log, append_assoc)
 
   -- a replay of these is one of those
-  replays_as : (id jd : ℕ) (filter gilter : List ClauseParts) (limit mimit : ℕ) (events fvents : List Event) (s : State K) → jd ≡ id → gilter ≡ filter → mimit ≡ limit → fvents ≡ events
+  pub replays_as : (id jd : ℕ) (filter gilter : List ClauseParts) (limit mimit : ℕ) (events fvents : List Event) (s : State K) → jd ≡ id → gilter ≡ filter → mimit ≡ limit → fvents ≡ events
       → Replays form id filter limit events s → Replays form jd gilter mimit fvents s
   replays_as id jd filter gilter limit mimit events fvents s id_is filter_is limit_is events_are h = rw (id_is, filter_is, limit_is, events_are) h
 

@@ -1,11 +1,6 @@
 -- What a step says of its answer: a reply stands for a change, with nothing that refuses the event, and a refusal changes nothing.
 use Rattle.std.proofs.Common.{◌≡◌, Option, Some, None, Result, Ok, Err, arith}
-use Rattle.mr_forms.specs.Known.{Form}
-use Rattle.mr_replica.specs.State.{State}
-use Rattle.mr_replica.specs.Step.{first_refusal, Changes, Answers, Steps}
-use Rattle.mr_replica.specs.declared.event.Event.{Event}
-use Rattle.mr_replica.specs.declared.event.Reply.{Reply}
-use Rattle.mr_replica.specs.declared.refusal.Refusal.{Refusal}
+use Rattle.mr_replica.proofs.Names.{Answers, Changes, Event, Form, Refusal, Reply, State, Steps, first_refusal}
 
 module _ {K : Type 0} (form : Form K) where
   -- a step, by what refuses the event first

@@ -1,37 +1,15 @@
 -- A step of a replica is a step of what is seen of it. There the values of the form are their meanings, so one knowledge is
 -- one value; what the form says of a value beyond its meaning, one step asks of one value alone, and that is fixed.
 use Rattle.std.proofs.Common.{◌≡◌, ◌≢◌, refl, sym, ap, subst, Bool, List, [], ◌∷◌, Option, None, Result, Err, inl, inr, arith}
-use Rattle.std.specs.List.{All}
-use Rattle.std.proofs.lemmas.List.Elements.{All-weaker}
-use Rattle.mr_forms.specs.ByMeaning.{IsByMeaning}
-use Rattle.mr_forms.specs.Known.{Form, Pairs, Part, AreSame}
-use Rattle.mr_forms.specs.Parts.{ArePartsThat}
-use Rattle.mr_madewith.specs.Revision.{Rev}
-use Rattle.mr_session.specs.Session.{Session}
-use Rattle.mr_wire.specs.Values.{DescentParts, Piece}
-use Rattle.mr_wire.specs.Frames.{Question, Sent}
-use Rattle.mr_wire.specs.declared.frame.Frame.{Frame}
+use Rattle.mr_replica.proofs.Names.{All, All-weaker, Answer, Answers, ArePartsThat, ArePiecesOf, AreSame, Body, Changes, Create, CutIn, CutOut, DescentParts}
+use Rattle.mr_replica.proofs.Names.{Edit, Ends, EndsSession, Event, FirstFault, Fits, Form, Frame, Full, HasFault, HasHoleyPart, IsAskOf, IsByMeaning, Keeps}
+use Rattle.mr_replica.proofs.Names.{KeepsHoley, Mode, Next, OutOfMemory, Pairs, Part, Partial, Piece, Pull, Question, Receive, Refusal, RefusesLate, Release}
+use Rattle.mr_replica.proofs.Names.{Reply, Retire, Rev, Sent, Session, State, Steps, TakesBody, TakesFrame, TakesLine, TooManyHoles, TooManyItems, Vouch}
+use Rattle.mr_replica.proofs.Names.{Wanted, Wanted.Knowledge, Wanted.Vector, entering, first_refusal, line_of, mode_for, seen, session_for, wanted_by}
+use Rattle.mr_replica.proofs.Names.{wanted_by_body, wanted_by_end, wanted_by_frame}
 use Rattle.mr_wire.specs.declared.frame.Frame.TheVariants as frame
-use Rattle.mr_wire.specs.declared.frame.Body.{Body}
 use Rattle.mr_wire.specs.declared.frame.Body.TheVariants as body
-use Rattle.mr_wire.specs.declared.frame.Mode.{Mode}
-use Rattle.mr_wire.specs.declared.frame.Mode.TheVariants.{Full, Partial}
-use Rattle.mr_replica.specs.State.{State}
-use Rattle.mr_replica.specs.Alike.{seen}
-use Rattle.mr_replica.specs.Pieces.{ArePiecesOf}
-use Rattle.mr_replica.specs.Fragments.{HasHoleyPart}
-use Rattle.mr_replica.specs.Forged.{line_of}
-use Rattle.mr_replica.specs.Pull.{IsAskOf}
-use Rattle.mr_replica.specs.Answer.{Keeps, KeepsHoley, mode_for}
-use Rattle.mr_replica.specs.Issue.{Wanted, Wanted.Vector, Wanted.Knowledge, Fits, HasFault, FirstFault}
-use Rattle.mr_replica.specs.Receive.{TakesLine, Ends, EndsSession, TakesBody, TakesFrame, entering, session_for, wanted_by_line, wanted_by_end, wanted_by_body, wanted_by_frame}
-use Rattle.mr_replica.specs.Step.{first_refusal, wanted_by, Changes, RefusesLate, Answers, Steps}
-use Rattle.mr_replica.specs.declared.event.Event.{Event}
-use Rattle.mr_replica.specs.declared.event.Event.TheVariants.{Create, Edit, Retire, Pull, Receive, CutIn, Answer, Next, CutOut, Vouch, Release}
-use Rattle.mr_replica.specs.declared.event.Reply.{Reply}
 use Rattle.mr_replica.specs.declared.event.Reply.TheVariants as reply
-use Rattle.mr_replica.specs.declared.refusal.Refusal.{Refusal}
-use Rattle.mr_replica.specs.declared.refusal.Refusal.TheVariants.{OutOfMemory, TooManyHoles, TooManyItems}
 use Rattle.mr_replica.proofs.Replies.{GoesOn}
 
 -- ---- predicates of parts
@@ -151,9 +129,6 @@ module _ {K : Type 0} (form : Form K) (told : IsByMeaning form) where
   change_seen s event told new h = grind (arith, ask_seen, frame_seen, keeps_seen)
 
   -- ---- what it wants, and how it is refused
-
-  wanted_line : (s : State K) (line : DescentParts) → wanted_by_line (by_meaning form s.knowledge) (seen form s) line ≡ wanted_by_line form s line
-  wanted_line s line = refl
 
   wanted_end : (s : State K) (session : Option Session) → wanted_by_end (by_meaning form s.knowledge) (seen form s) session ≡ wanted_by_end form s session
   wanted_end s session = grind arith

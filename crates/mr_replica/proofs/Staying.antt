@@ -1,11 +1,6 @@
 -- a version that is not held is not among what stays
 use Rattle.std.proofs.Common.{◌≡◌, ◌++◌, not, List, None}
-use Rattle.std.proofs.lemmas.List.Elements.{filter-append}
-use Rattle.mr_version.specs.Name.{Name}
-use Rattle.mr_forms.specs.Sets.{Versions}
-use Rattle.mr_madewith.specs.Revision.{Rev}
-use Rattle.mr_madewith.proofs.Rising.{named-filter}
-use Rattle.mr_store.specs.Revisions.{version_of, revision_of, supersedes, left_by}
+use Rattle.mr_replica.proofs.Names.{Name, Rev, Versions, filter-append, left_by, named-filter, revision_of, supersedes, version_of}
 
 pub stays_new : (item : Name) (below : Versions) (heads push_outs : List Rev) (v : Name) → revision_of (heads ++ push_outs) v ≡ None → revision_of (left_by item below heads ++ left_by item below push_outs) v ≡ None
 stays_new item below heads push_outs v new =

@@ -1,45 +1,24 @@
 -- what comes of a version that a record tells of
-use Rattle.std.proofs.Common.{◌≡◌, ◌↔◌, IsErrOf, Bool, false, if◌then◌else◌, refl, sym, subst, ◌∙◌, [], ◌∷◌, Option, Some, None, IfSome, Result, Ok, inl, inr, arith}
-use Rattle.std.specs.List.{All}
-use Rattle.std.proofs.lemmas.Bool.{or_parts}
-use Rattle.std.proofs.lemmas.List.Elements.{All-nil, All-cons}
-use Rattle.mr_version.specs.Name.{Name}
-use Rattle.mr_forms.specs.Known.{Pairs, Form, IsOverHolesInTurn, IsOverItemsInTurn, learned_of}
-use Rattle.mr_forms.specs.declared.fault.FormFault.{FormFault}
+use Rattle.std.proofs.Common.{◌≡◌, ◌↔◌, IsErrOf, false, refl, sym, ap, subst, ◌∙◌, [], ◌∷◌, Some, Result, Ok, inl, inr}
+use Rattle.mr_replica.proofs.Names.{All, All-cons, All-nil, Body, DescentParts, Fits, Form, FormFault, IsOverHolesInTurn, IsOverItemsInTurn, Item, MoveOut}
+use Rattle.mr_replica.proofs.Names.{Pairs, Rev, State, Wanted.Knowledge, cond_some, entering, is_early_line, is_forged, is_misfiled, is_selected, learned_of}
+use Rattle.mr_replica.proofs.Names.{line_learned, line_of, or_parts, told_line, vector_has, wanted_by_line}
 use Rattle.mr_forms.specs.declared.fault.FormFault.TheVariants as fault
-use Rattle.mr_concise.specs.Vector.{vector_has}
-use Rattle.mr_madewith.specs.Revision.{Rev}
-use Rattle.mr_wire.specs.Values.{DescentParts}
-use Rattle.mr_wire.specs.declared.frame.Body.{Body}
-use Rattle.mr_replica.specs.State.{State, held}
-use Rattle.mr_replica.specs.inner.Sound.{IsSound}
-use Rattle.mr_replica.specs.Forged.{line_of, is_early_line, is_misfiled, is_forged}
-use Rattle.mr_replica.specs.Issue.{Wanted.Knowledge, Fits}
-use Rattle.mr_replica.specs.Receive.{line_learned, wanted_by_line, entering}
-use Rattle.mr_replica.specs.inner.Taking.{told_line, told_by}
 use Rattle.mr_replica.proofs.Choice.{some_same}
-use Rattle.mr_replica.proofs.Taking.{not_held_yet}
 
--- ---- what is not forged
-
-module _ {K : Type 0} (s : State K) where
-  pub told_not_early : (body : Body) (line : DescentParts) → told_line body ≡ Some line → is_forged s body ≡ false → is_early_line s line ≡ false
-  told_not_early body line told sure = grind (arith, some_same, or_parts)
-
-  -- the one that comes is the Item's revision
-  comes_if : (b : Bool) (r q : Rev) → (if b then Some r else None) ≡ Some q → r ≡ q
-  comes_if b r q is = grind (arith, some_same)
-
-  pub comer_told : (body : Body) (r : Rev) (line : DescentParts) → entering s body ≡ Some r → told_line body ≡ Some line → line_of r ≡ line
-  comer_told body r line comes told = grind (arith, comes_if, some_same)
-
-  pub comer_filed : (body : Body) (r : Rev) → entering s body ≡ Some r → is_forged s body ≡ false → is_misfiled s r.item r.version ≡ false
-  comer_filed body r comes sure = grind (arith, comes_if, or_parts)
-
--- the one that comes is not held yet
-pub comer_new : {K : Type 0} (form : Form K) (s : State K) (sound : IsSound form s) (item version : Name) (body : Body) → told_line body ≡ Some (told_by item version body) → form.known s.knowledge item version ≡ false
-    → is_forged s body ≡ false → (comer : Option Rev) → comer ≡ entering s body → IfSome comer (λ r. held s r.version ≡ None)
-comer_new form s sound item version body told unknown sure comer is = grind (arith, comer_told, not_held_yet, comer_filed)
+-- what a record tells that is not forged was issued where it is an own version, and the revision that it brings is that version, filed where it is held
+pub told_parts : {K : Type 0} (s : State K) (body : Body) (line : DescentParts) → told_line body ≡ Some line → is_forged s body ≡ false
+    → (is_early_line s line ≡ false) × ((r : Rev) → entering s body ≡ Some r → (line_of r ≡ line) × (is_misfiled s r.item r.version ≡ false))
+told_parts s (Item q) line told sure =
+    let same = some_same (line_of q) line told in
+    let parts = or_parts (is_early_line s (line_of q)) (is_misfiled s q.item q.version) sure in (
+      ap (is_early_line s) (sym same) ∙ parts.0,
+      λ r comes.
+          let one = sym (cond_some (is_selected s q) q r comes).1 in
+          (ap line_of one ∙ same, ap (λ (x : Rev). is_misfiled s x.item x.version) one ∙ parts.1),
+    )
+told_parts s (MoveOut l) line told sure = (ap (is_early_line s) (sym (some_same l line told)) ∙ sure, λ r comes. absurd (cc))
+told_parts s body line told sure = cc
 
 -- ---- what is wanted
 

@@ -90,149 +90,81 @@ other = rev (name 3 1) (name 5 1) (upto 3 1 ∷ []) 0
 
 -- ---- what a fresh replica refuses
 
-pub fresh_creates : create_refusal fresh ≡ None
-fresh_creates = refl
-
--- an edit wants a base first of all
-pub fresh_edit_of_nothing : edit_refusal fresh [] ≡ Some NoBase
-fresh_edit_of_nothing = refl
-
--- the first base that isn't held is named
-pub fresh_edit : edit_refusal fresh (name 5 2 ∷ name 3 1 ∷ []) ≡ Some (NotHeld (name 5 2))
-fresh_edit = refl
-
--- it has nothing to lose
-pub fresh_retires : retire_refusal fresh ≡ None
-fresh_retires = refl
-
-pub fresh_pulls : pull_refusal fresh ≡ None
-fresh_pulls = refl
-
-pub fresh_cut_in : cut_in_refusal fresh 1 ≡ Some NoSession
-fresh_cut_in = refl
-
-pub fresh_cut_out : cut_out_refusal fresh 1 ≡ Some NoStream
-fresh_cut_out = refl
-
-pub fresh_next : next_refusal fresh 1 ≡ Some NoStream
-fresh_next = refl
-
-pub fresh_vouch : vouch_refusal fresh (name 3 1) ≡ Some (NotHeld (name 3 1))
-fresh_vouch = refl
-
-pub fresh_release : release_refusal fresh (receipt first) ≡ Some NotPushedOut
-fresh_release = refl
-
--- it answers others, though not itself
-pub fresh_answers : answer_refusal fresh (ask 5 all) ≡ None
-fresh_answers = refl
-
-pub fresh_own_ask : answer_refusal fresh (ask 3 all) ≡ Some OwnAsk
-fresh_own_ask = refl
-
--- a record for another replica is not its own, whether or not it has the session
-pub fresh_record_of_another : receive_refusal fresh (frame.Record (sent 4 0 (Start Full))) ≡ Some NotForMe
-fresh_record_of_another = refl
-
-pub fresh_record : receive_refusal fresh (frame.Record (sent 3 0 (Start Full))) ≡ Some NoSession
-fresh_record = refl
-
--- a request is no record
-pub fresh_request : receive_refusal fresh (frame.Ask (ask 5 all)) ≡ Some NotARecord
-fresh_request = refl
+pub fresh_refusals :
+    (create_refusal fresh ≡ None)
+    -- an edit wants a base first of all
+    × (edit_refusal fresh [] ≡ Some NoBase)
+    -- the first base that isn't held is named
+    × (edit_refusal fresh (name 5 2 ∷ name 3 1 ∷ []) ≡ Some (NotHeld (name 5 2)))
+    -- it has nothing to lose
+    × (retire_refusal fresh ≡ None)
+    × (pull_refusal fresh ≡ None)
+    × (cut_in_refusal fresh 1 ≡ Some NoSession)
+    × (cut_out_refusal fresh 1 ≡ Some NoStream)
+    × (next_refusal fresh 1 ≡ Some NoStream)
+    × (vouch_refusal fresh (name 3 1) ≡ Some (NotHeld (name 3 1)))
+    × (release_refusal fresh (receipt first) ≡ Some NotPushedOut)
+    -- it answers others, though not itself
+    × (answer_refusal fresh (ask 5 all) ≡ None)
+    × (answer_refusal fresh (ask 3 all) ≡ Some OwnAsk)
+    -- a record for another replica is not its own, whether or not it has the session
+    × (receive_refusal fresh (frame.Record (sent 4 0 (Start Full))) ≡ Some NotForMe)
+    × (receive_refusal fresh (frame.Record (sent 3 0 (Start Full))) ≡ Some NoSession)
+    -- a request is no record
+    × (receive_refusal fresh (frame.Ask (ask 5 all)) ≡ Some NotARecord)
+fresh_refusals = (refl, refl, refl, refl, refl, refl, refl, refl, refl, refl, refl, refl, refl, refl, refl)
 
 -- ---- what a replica with a full log refuses: the log's fault comes last
 
-pub full_create : create_refusal full ≡ Some LogFull
-full_create = refl
-
-pub full_edit : edit_refusal full [] ≡ Some NoBase
-full_edit = refl
-
-pub full_pull : pull_refusal full ≡ Some LogFull
-full_pull = refl
-
-pub full_answer : answer_refusal full (ask 5 all) ≡ Some LogFull
-full_answer = refl
-
-pub full_own_ask : answer_refusal full (ask 3 all) ≡ Some OwnAsk
-full_own_ask = refl
-
--- it may retire all the same
-pub full_retires : retire_refusal full ≡ None
-full_retires = refl
+pub full_refusals :
+    (create_refusal full ≡ Some LogFull)
+    × (edit_refusal full [] ≡ Some NoBase)
+    × (pull_refusal full ≡ Some LogFull)
+    × (answer_refusal full (ask 5 all) ≡ Some LogFull)
+    × (answer_refusal full (ask 3 all) ≡ Some OwnAsk)
+    -- it may retire all the same
+    × (retire_refusal full ≡ None)
+full_refusals = (refl, refl, refl, refl, refl, refl)
 
 -- ---- what a retired replica refuses
 
-pub retired_create : create_refusal retired ≡ Some Retired
-retired_create = refl
-
--- that it has retired comes before all else
-pub retired_edit : edit_refusal retired [] ≡ Some Retired
-retired_edit = refl
-
-pub retired_and_full : create_refusal (retiring full) ≡ Some Retired
-retired_and_full = refl
-
-pub retired_twice : retire_refusal retired ≡ Some Retired
-retired_twice = refl
-
-pub retired_cut_in : cut_in_refusal retired 1 ≡ Some Retired
-retired_cut_in = refl
-
-pub retired_vouch : vouch_refusal retired (name 3 1) ≡ Some Retired
-retired_vouch = refl
-
-pub retired_request : receive_refusal retired (frame.Ask (ask 5 all)) ≡ Some Retired
-retired_request = refl
-
--- it goes on telling others
-pub retired_answers : answer_refusal retired (ask 5 all) ≡ None
-retired_answers = refl
-
-pub retired_next : next_refusal retired 1 ≡ Some NoStream
-retired_next = refl
+pub retired_refusals :
+    (create_refusal retired ≡ Some Retired)
+    -- that it has retired comes before all else
+    × (edit_refusal retired [] ≡ Some Retired)
+    × (create_refusal (retiring full) ≡ Some Retired)
+    × (retire_refusal retired ≡ Some Retired)
+    × (cut_in_refusal retired 1 ≡ Some Retired)
+    × (vouch_refusal retired (name 3 1) ≡ Some Retired)
+    × (receive_refusal retired (frame.Ask (ask 5 all)) ≡ Some Retired)
+    -- it goes on telling others
+    × (answer_refusal retired (ask 5 all) ≡ None)
+    × (next_refusal retired 1 ≡ Some NoStream)
+retired_refusals = (refl, refl, refl, refl, refl, refl, refl, refl, refl)
 
 -- ---- a create
-
--- the first version is 1, and its own item
-pub first_version : next_version fresh ≡ name 3 1
-first_version = refl
 
 -- the replica behind the create of a message with these flags
 abbrev behind_create : ℕ → State ℕ
 behind_create flags = issuing fresh 0 (revision_for fresh (created fresh (mail flags)) [])
 
--- what the filter selects enters the heads, and the feed tells it
-pub created_head : (behind_create 0).heads ≡ first ∷ []
-created_head = refl
-
-pub created_no_push_out : (behind_create 0).push_outs ≡ []
-created_no_push_out = refl
-
-pub created_told : (behind_create 0).feed ≡ added first ∷ []
-created_told = refl
-
--- what it doesn't select is pushed out, and the feed tells nothing
-pub created_push_out : (behind_create 16).push_outs ≡ rev (name 3 1) (name 3 1) [] 16 ∷ []
-created_push_out = refl
-
-pub created_no_head : (behind_create 16).heads ≡ []
-created_no_head = refl
-
-pub created_untold : (behind_create 16).feed ≡ []
-created_untold = refl
-
--- the push-out feed tells it, and nothing of a head
-pub created_pushed_told : (behind_create 16).push_out_feed ≡ added (rev (name 3 1) (name 3 1) [] 16) ∷ []
-created_pushed_told = refl
-
-pub created_head_pushed_untold : (behind_create 0).push_out_feed ≡ []
-created_head_pushed_untold = refl
-
--- the next version is 2 either way
-pub second_version : next_version (behind_create 16) ≡ name 3 2
-second_version = refl
+pub after_a_create :
+    -- the first version is 1, and its own item
+    (next_version fresh ≡ name 3 1)
+    -- what the filter selects enters the heads, and the feed tells it
+    × ((behind_create 0).heads ≡ first ∷ [])
+    × ((behind_create 0).push_outs ≡ [])
+    × ((behind_create 0).feed ≡ added first ∷ [])
+    -- what it doesn't select is pushed out, and the feed tells nothing
+    × ((behind_create 16).push_outs ≡ rev (name 3 1) (name 3 1) [] 16 ∷ [])
+    × ((behind_create 16).heads ≡ [])
+    × ((behind_create 16).feed ≡ [])
+    -- the push-out feed tells it, and nothing of a head
+    × ((behind_create 16).push_out_feed ≡ added (rev (name 3 1) (name 3 1) [] 16) ∷ [])
+    × ((behind_create 0).push_out_feed ≡ [])
+    -- the next version is 2 either way
+    × (next_version (behind_create 16) ≡ name 3 2)
+after_a_create = (refl, refl, refl, refl, refl, refl, refl, refl, refl, refl)
 
 -- ---- an edit
 
@@ -240,31 +172,20 @@ second_version = refl
 abbrev behind_edit : ℕ → State ℕ
 behind_edit flags = issuing (behind_create 0) 0 (revision_for (behind_create 0) (edited (behind_create 0) (name 3 1 ∷ []) (mail flags)) (upto 3 1 ∷ []))
 
--- the new version keeps the item, and takes its base's place
-pub edited_head : (behind_edit 1).heads ≡ rev (name 3 1) (name 3 2) (upto 3 1 ∷ []) 1 ∷ []
-edited_head = refl
-
--- the feed tells that the base left, and then that the new version entered
-pub edited_told : (behind_edit 1).feed ≡ added first ∷ Dropped (name 3 1) (name 3 1) ∷ added (rev (name 3 1) (name 3 2) (upto 3 1 ∷ []) 1) ∷ []
-edited_told = refl
-
--- what the filter no longer selects leaves the heads for the push-outs
-pub edited_away : (behind_edit 16).heads ≡ []
-edited_away = refl
-
-pub edited_push_out : (behind_edit 16).push_outs ≡ rev (name 3 1) (name 3 2) (upto 3 1 ∷ []) 16 ∷ []
-edited_push_out = refl
-
-pub edited_away_told : (behind_edit 16).feed ≡ added first ∷ Dropped (name 3 1) (name 3 1) ∷ []
-edited_away_told = refl
-
--- the last own version of the item is the new one alone
-pub edited_trail : (behind_edit 1).trail ≡ rev (name 3 1) (name 3 2) (upto 3 1 ∷ []) 1 ∷ []
-edited_trail = refl
-
--- what leaves is told in the order of the heads, before what enters
-pub left_first : told_more [] (first ∷ other ∷ []) (rev (name 3 1) (name 3 2) [] 0 ∷ []) ≡ Dropped (name 3 1) (name 3 1) ∷ Dropped (name 3 1) (name 5 1) ∷ added (rev (name 3 1) (name 3 2) [] 0) ∷ []
-left_first = refl
+pub after_an_edit :
+    -- the new version keeps the item, and takes its base's place
+    ((behind_edit 1).heads ≡ rev (name 3 1) (name 3 2) (upto 3 1 ∷ []) 1 ∷ [])
+    -- the feed tells that the base left, and then that the new version entered
+    × ((behind_edit 1).feed ≡ added first ∷ Dropped (name 3 1) (name 3 1) ∷ added (rev (name 3 1) (name 3 2) (upto 3 1 ∷ []) 1) ∷ [])
+    -- what the filter no longer selects leaves the heads for the push-outs
+    × ((behind_edit 16).heads ≡ [])
+    × ((behind_edit 16).push_outs ≡ rev (name 3 1) (name 3 2) (upto 3 1 ∷ []) 16 ∷ [])
+    × ((behind_edit 16).feed ≡ added first ∷ Dropped (name 3 1) (name 3 1) ∷ [])
+    -- the last own version of the item is the new one alone
+    × ((behind_edit 1).trail ≡ rev (name 3 1) (name 3 2) (upto 3 1 ∷ []) 1 ∷ [])
+    -- what leaves is told in the order of the heads, before what enters
+    × (told_more [] (first ∷ other ∷ []) (rev (name 3 1) (name 3 2) [] 0 ∷ []) ≡ Dropped (name 3 1) (name 3 1) ∷ Dropped (name 3 1) (name 5 1) ∷ added (rev (name 3 1) (name 3 2) [] 0) ∷ [])
+after_an_edit = (refl, refl, refl, refl, refl, refl, refl)
 
 -- ---- what an event adds
 
@@ -272,12 +193,11 @@ left_first = refl
 pub create_tells : FeedGrows fresh (behind_create 0)
 create_tells = (added first ∷ [], refl)
 
--- an admitted event is one more of the log, and a refused one is none
-pub admitted_event : admitted Pull (Ok Done) ≡ Pull ∷ []
-admitted_event = refl
-
-pub refused_event : admitted Pull (Err LogFull) ≡ []
-refused_event = refl
+pub which_are_admitted :
+    -- an admitted event is one more of the log, and a refused one is none
+    (admitted Pull (Ok Done) ≡ Pull ∷ [])
+    × (admitted Pull (Err LogFull) ≡ [])
+which_are_admitted = (refl, refl)
 
 -- ---- what an edit refuses
 
@@ -285,121 +205,73 @@ refused_event = refl
 abbrev conflicting : State ℕ
 conflicting = record fresh { issued = 2; heads = rev (name 3 1) (name 3 2) (upto 3 1 ∷ []) 0 ∷ other ∷ [] }
 
--- both versions may be the bases
-pub edit_both : edit_refusal conflicting (name 5 1 ∷ name 3 2 ∷ []) ≡ None
-edit_both = refl
-
--- the own one alone may be
-pub edit_own : edit_refusal conflicting (name 3 2 ∷ []) ≡ None
-edit_own = refl
-
--- the other's alone may not, for that leaves out the own one
-pub edit_other : edit_refusal conflicting (name 5 1 ∷ []) ≡ Some (OwnHeadLeft (name 3 2))
-edit_other = refl
-
--- that is told before that the log is full
-pub edit_other_full : edit_refusal (record conflicting { log = Pull ∷ Pull ∷ [] }) (name 5 1 ∷ []) ≡ Some (OwnHeadLeft (name 3 2))
-edit_other_full = refl
-
--- a base that is superseded is held no more
-pub edit_superseded : edit_refusal conflicting (name 3 2 ∷ name 3 1 ∷ []) ≡ Some (NotHeld (name 3 1))
-edit_superseded = refl
-
--- bases of two items are mixed, whatever own version they leave out
-pub edit_mixed : edit_refusal (record conflicting { push_outs = rev (name 7 1) (name 7 1) [] 0 ∷ [] }) (name 5 1 ∷ name 7 1 ∷ []) ≡ Some MixedItems
-edit_mixed = refl
-
--- the lower of two versions goes by the author first
-pub lower_author : lower_of (Some (name 5 1)) (Some (name 3 2)) ≡ Some (name 3 2)
-lower_author = refl
-
--- a version that isn't held counts as its own item
-pub item_of_unheld : item_of_held fresh (name 5 1) ≡ name 5 1
-item_of_unheld = refl
+pub edit_refusals :
+    -- both versions may be the bases
+    (edit_refusal conflicting (name 5 1 ∷ name 3 2 ∷ []) ≡ None)
+    -- the own one alone may be
+    × (edit_refusal conflicting (name 3 2 ∷ []) ≡ None)
+    -- the other's alone may not, for that leaves out the own one
+    × (edit_refusal conflicting (name 5 1 ∷ []) ≡ Some (OwnHeadLeft (name 3 2)))
+    -- that is told before that the log is full
+    × (edit_refusal (record conflicting { log = Pull ∷ Pull ∷ [] }) (name 5 1 ∷ []) ≡ Some (OwnHeadLeft (name 3 2)))
+    -- a base that is superseded is held no more
+    × (edit_refusal conflicting (name 3 2 ∷ name 3 1 ∷ []) ≡ Some (NotHeld (name 3 1)))
+    -- bases of two items are mixed, whatever own version they leave out
+    × (edit_refusal (record conflicting { push_outs = rev (name 7 1) (name 7 1) [] 0 ∷ [] }) (name 5 1 ∷ name 7 1 ∷ []) ≡ Some MixedItems)
+    -- the lower of two versions goes by the author first
+    × (lower_of (Some (name 5 1)) (Some (name 3 2)) ≡ Some (name 3 2))
+    -- a version that isn't held counts as its own item
+    × (item_of_held fresh (name 5 1) ≡ name 5 1)
+edit_refusals = (refl, refl, refl, refl, refl, refl, refl, refl)
 
 -- ---- push-outs
 
--- a replica with a push-out doesn't retire
-pub retire_with_push_out : retire_refusal (behind_create 16) ≡ Some PushOutsLeft
-retire_with_push_out = refl
-
--- a push-out is not vouched for
-pub vouch_for_push_out : vouch_refusal (behind_create 16) (name 3 1) ≡ Some (NotHeld (name 3 1))
-vouch_for_push_out = refl
-
-pub vouch_for_head : vouch_refusal (behind_create 0) (name 3 1) ≡ None
-vouch_for_head = refl
-
--- a receipt for the push-out itself releases it, and so does one for a version that supersedes it
-pub release_itself : (releasing (behind_create 16) (receipt first)).push_outs ≡ []
-release_itself = refl
-
-pub release_by_later : (releasing (behind_create 16) (receipt other)).push_outs ≡ []
-release_by_later = refl
-
--- the push-out feed tells that it left
-pub release_told : (releasing (behind_create 16) (receipt other)).push_out_feed ≡ added (rev (name 3 1) (name 3 1) [] 16) ∷ Dropped (name 3 1) (name 3 1) ∷ []
-release_told = refl
-
--- also where something known supersedes it
-pub superseded_told : (learning (behind_create 16) 0 (line_of other) (Some other)).push_out_feed ≡ added (rev (name 3 1) (name 3 1) [] 16) ∷ Dropped (name 3 1) (name 3 1) ∷ []
-superseded_told = refl
-
--- a receipt for a version of another item releases nothing
-pub no_release_by_other_item : release_refusal (behind_create 16) (receipt (rev (name 7 1) (name 7 2) (upto 3 1 ∷ []) 0)) ≡ Some NotPushedOut
-no_release_by_other_item = refl
-
--- a head is not released
-pub no_release_of_head : release_refusal (behind_create 0) (receipt first) ≡ Some NotPushedOut
-no_release_of_head = refl
+pub push_outs_released :
+    -- a replica with a push-out doesn't retire
+    (retire_refusal (behind_create 16) ≡ Some PushOutsLeft)
+    -- a push-out is not vouched for
+    × (vouch_refusal (behind_create 16) (name 3 1) ≡ Some (NotHeld (name 3 1)))
+    × (vouch_refusal (behind_create 0) (name 3 1) ≡ None)
+    -- a receipt for the push-out itself releases it, and so does one for a version that supersedes it
+    × ((releasing (behind_create 16) (receipt first)).push_outs ≡ [])
+    × ((releasing (behind_create 16) (receipt other)).push_outs ≡ [])
+    -- the push-out feed tells that it left
+    × ((releasing (behind_create 16) (receipt other)).push_out_feed ≡ added (rev (name 3 1) (name 3 1) [] 16) ∷ Dropped (name 3 1) (name 3 1) ∷ [])
+    -- also where something known supersedes it
+    × ((learning (behind_create 16) 0 (line_of other) (Some other)).push_out_feed ≡ added (rev (name 3 1) (name 3 1) [] 16) ∷ Dropped (name 3 1) (name 3 1) ∷ [])
+    -- a receipt for a version of another item releases nothing
+    × (release_refusal (behind_create 16) (receipt (rev (name 7 1) (name 7 2) (upto 3 1 ∷ []) 0)) ≡ Some NotPushedOut)
+    -- a head is not released
+    × (release_refusal (behind_create 0) (receipt first) ≡ Some NotPushedOut)
+push_outs_released = (refl, refl, refl, refl, refl, refl, refl, refl, refl)
 
 -- ---- streams
 
--- one who selects no more than is selected here gets a full stream, and one who selects more a partial one
-pub full_stream : mode_for fresh (ask 5 not_deleted) ≡ Full
-full_stream = refl
-
-pub partial_stream : mode_for fresh (ask 5 all) ≡ Partial
-partial_stream = refl
-
--- a session's first record is the start of its stream
-pub session_starts : receive_refusal (pulling fresh) (frame.Record (sent 3 0 (Start Full))) ≡ None
-session_starts = refl
-
-pub session_without_start : receive_refusal (pulling fresh) (frame.Record (sent 3 1 End)) ≡ Some NotStart
-session_without_start = refl
-
--- an arriving revision drops the head that it supersedes, and the feed tells both
-pub arrived_head : (learning (behind_create 0) 0 (line_of other) (Some other)).heads ≡ other ∷ []
-arrived_head = refl
-
-pub arrived_told : (learning (behind_create 0) 0 (line_of other) (Some other)).feed ≡ added first ∷ Dropped (name 3 1) (name 3 1) ∷ added other ∷ []
-arrived_told = refl
-
--- a version that is told as moved out takes what it supersedes with it, and nothing enters
-pub moved_out : (learning (behind_create 0) 0 (line_of other) None).heads ≡ []
-moved_out = refl
+pub streams_and_sessions :
+    -- one who selects no more than is selected here gets a full stream, and one who selects more a partial one
+    (mode_for fresh (ask 5 not_deleted) ≡ Full)
+    × (mode_for fresh (ask 5 all) ≡ Partial)
+    -- a session's first record is the start of its stream
+    × (receive_refusal (pulling fresh) (frame.Record (sent 3 0 (Start Full))) ≡ None)
+    × (receive_refusal (pulling fresh) (frame.Record (sent 3 1 End)) ≡ Some NotStart)
+    -- an arriving revision drops the head that it supersedes, and the feed tells both
+    × ((learning (behind_create 0) 0 (line_of other) (Some other)).heads ≡ other ∷ [])
+    × ((learning (behind_create 0) 0 (line_of other) (Some other)).feed ≡ added first ∷ Dropped (name 3 1) (name 3 1) ∷ added other ∷ [])
+    -- a version that is told as moved out takes what it supersedes with it, and nothing enters
+    × ((learning (behind_create 0) 0 (line_of other) None).heads ≡ [])
+streams_and_sessions = (refl, refl, refl, refl, refl, refl, refl)
 
 -- ---- records that no replica gave
 
--- a version of another may supersede an own one that was issued
-pub genuine_line : is_forged (behind_create 0) (MoveOut (line_of other)) ≡ false
-genuine_line = refl
-
--- not one that was never issued
-pub forged_line : is_forged fresh (MoveOut (line_of other)) ≡ true
-forged_line = refl
-
-pub forged_vector : is_forged (behind_create 0) (Held (upto 3 2 ∷ [])) ≡ true
-forged_vector = refl
-
-pub genuine_vector : is_forged (behind_create 0) (Held (upto 3 1 ∷ upto 5 9 ∷ [])) ≡ false
-genuine_vector = refl
-
--- nor may a fragment list an item that was never created
-pub forged_items : is_forged (behind_create 0) (Know (record { items = Some (name 3 2 ∷ []); vector = [] })) ≡ true
-forged_items = refl
-
--- a held version keeps its item
-pub misfiled : is_forged (behind_create 0) (Item (rev (name 5 1) (name 3 1) (upto 5 1 ∷ []) 0)) ≡ true
-misfiled = refl
+pub which_are_forged :
+    -- a version of another may supersede an own one that was issued
+    (is_forged (behind_create 0) (MoveOut (line_of other)) ≡ false)
+    -- not one that was never issued
+    × (is_forged fresh (MoveOut (line_of other)) ≡ true)
+    × (is_forged (behind_create 0) (Held (upto 3 2 ∷ [])) ≡ true)
+    × (is_forged (behind_create 0) (Held (upto 3 1 ∷ upto 5 9 ∷ [])) ≡ false)
+    -- nor may a fragment list an item that was never created
+    × (is_forged (behind_create 0) (Know (record { items = Some (name 3 2 ∷ []); vector = [] })) ≡ true)
+    -- a held version keeps its item
+    × (is_forged (behind_create 0) (Item (rev (name 5 1) (name 3 1) (upto 5 1 ∷ []) 0)) ≡ true)
+which_are_forged = (refl, refl, refl, refl, refl, refl)

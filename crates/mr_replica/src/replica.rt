@@ -61,13 +61,10 @@ impl ReplicaFault {
 /// more.
 pub const MAX_EVENTS: u32 = 1_000_000;
 
-// What a replica has: its setting, and what events change.
+// What a replica is, of which its calls keep what holds of each.
 #[derive(Drop)]
 struct Core<K: Knowledge> {
     alloc: Global,
-    id: Author,
-    filter: Filter,
-    event_limit: u32,
     parts: Parts<K>,
 }
 
@@ -75,12 +72,13 @@ impl<K: Knowledge> Model for Core<K> {
     ghost use Rattle.std.specs.Prelude.{◌≤◌, length};
     ghost use Rattle.mr_replica.specs.State.{State};
     ghost use Rattle.mr_replica.specs.inner.Sound.{IsSound};
+    ghost use Rattle.mr_replica.specs.inner.Parts.{parts_seen};
 
     ghost Value = { State K };
 
-    ghost view = { λ r. record { id = r.id; filter = r.filter; event_limit = r.event_limit; issued = r.parts.issued; knowledge = r.parts.knowledge; heads = r.parts.contents.store.heads; push_outs = r.parts.contents.store.push_outs; trail = r.parts.contents.trail.lasts; feed = r.parts.contents.feed.entries; push_out_feed = r.parts.contents.push_out_feed.entries; log = r.parts.contents.log; is_retired = r.parts.is_retired; sessions = r.parts.sessions; streams = r.parts.streams } };
+    ghost view = { λ r. parts_seen r.parts };
 
-    ghost invariant = { λ r. IsSound K.form (record { id = r.id; filter = r.filter; event_limit = r.event_limit; issued = r.parts.issued; knowledge = r.parts.knowledge; heads = r.parts.contents.store.heads; push_outs = r.parts.contents.store.push_outs; trail = r.parts.contents.trail.lasts; feed = r.parts.contents.feed.entries; push_out_feed = r.parts.contents.push_out_feed.entries; log = r.parts.contents.log; is_retired = r.parts.is_retired; sessions = r.parts.sessions; streams = r.parts.streams }) };
+    ghost invariant = { λ r. IsSound K.form (parts_seen r.parts) };
 }
 
 /// A replica over a form of knowledge. It is its log replayed: a fresh one of its id, filter and limit that admits
@@ -135,14 +133,14 @@ impl<K: Knowledge> Replica<K> {
     pub fn id(&self) -> Author
         ensures { result ≡ self.now.id }
     {
-        self.core.id
+        self.core.parts.id
     }
 
     /// Which messages it selects.
     pub fn filter(&self) -> &Filter
         ensures { result.now ≡ self.now.filter }
     {
-        &self.core.filter
+        &self.core.parts.filter
     }
 
     /// How many events it admits; a Retire is admitted past them, once.
@@ -151,7 +149,7 @@ impl<K: Knowledge> Replica<K> {
         ensures low { 1 ≤ result }
         ensures high { result ≤ MAX_EVENTS }
     {
-        self.core.event_limit
+        self.core.parts.event_limit
     }
 
     /// Whether it has retired: it admits nothing more but to tell others.
@@ -294,13 +292,8 @@ impl<K: Knowledge> Core<K> {
         if event_limit == 0 || event_limit > MAX_EVENTS {
             return Err(ReplicaFault::BadLimit);
         }
-        Ok(Core {
-            alloc,
-            id,
-            filter,
-            event_limit,
-            parts: Parts::new(alloc),
-        })
+        let parts = Parts::new(alloc, id, filter, event_limit);
+        Ok(Core { alloc, parts })
     }
 
     fn held(&self, version: Version) -> Option<&Revision>

@@ -22,7 +22,7 @@ impl<K: Knowledge> Core<K> {
     pub(crate) fn check_log(&self) -> Result<(), Refusal>
         ensures { MatchResult result (λ _. log_full self.now ≡ None) (λ e. log_full self.now ≡ Some e) }
     {
-        if self.event_limit as usize <= self.parts.contents.log().len() {
+        if self.parts.event_limit as usize <= self.parts.contents.log().len() {
             return Err(Refusal::LogFull);
         }
         Ok(())

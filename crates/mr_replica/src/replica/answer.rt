@@ -76,7 +76,7 @@ impl<K: Knowledge> Core<K> {
     fn check_answer(&self, ask: &Ask) -> Result<(), Refusal>
         ensures { MatchResult result (λ _. answer_refusal self.now ask.now ≡ None) (λ e. answer_refusal self.now ask.now ≡ Some e) }
     {
-        if ask.target() == self.id {
+        if ask.target() == self.parts.id {
             return Err(Refusal::OwnAsk);
         }
         if self.parts.streams.is_full() {
@@ -89,7 +89,7 @@ impl<K: Knowledge> Core<K> {
     fn mode_for(&self, ask: &Ask) -> Mode
         ensures { result ≡ mode_for self.now ask.now }
     {
-        if self.filter.covers(ask.filter()) {
+        if self.parts.filter.covers(ask.filter()) {
             Mode::Full
         } else {
             Mode::Partial

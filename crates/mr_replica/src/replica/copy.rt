@@ -25,13 +25,9 @@ impl<K: Knowledge> Core<K> {
     fn copy(&self) -> Result<Core<K>, AllocError>
         ensures { IfOk result (λ core. core ≡ self.now) }
     {
-        let filter = self.filter.copy()?;
         let parts = self.parts.copy(self.alloc)?;
         Ok(Core {
             alloc: self.alloc,
-            id: self.id,
-            filter,
-            event_limit: self.event_limit,
             parts,
         })
     }
@@ -42,14 +38,15 @@ impl<K: Knowledge> Parts<K> {
     fn copy(&self, alloc: Global) -> Result<Parts<K>, AllocError>
         ensures { IfOk result (λ parts. parts_seen parts ≡ parts_seen self.now) }
     {
-        let mut copy = Parts::new(alloc);
+        let filter = self.filter.copy()?;
+        let mut copy = Parts::new(alloc, self.id, filter, self.event_limit);
         copy.copy_from(self)?;
         Ok(copy)
     }
 
     // Holds what the others hold, or memory is wanting.
     fn copy_from(&mut self, others: &Parts<K>) -> Result<(), AllocError>
-        ensures { OnOk result (parts_seen self.new ≡ parts_seen others.now) }
+        ensures { OnOk result (parts_seen self.new ≡ record (parts_seen others.now) { id = self.old.id; filter = self.old.filter; event_limit = self.old.event_limit }) }
     {
         self.issued = others.issued;
         self.is_retired = others.is_retired;

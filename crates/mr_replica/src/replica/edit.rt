@@ -113,8 +113,8 @@ impl<K: Knowledge> Core<K> {
     {
         let store = self.parts.contents.store();
         lower(
-            first_left(store.heads_of(item), self.id, bases),
-            first_left(store.push_outs_of(item), self.id, bases),
+            first_left(store.heads_of(item), self.parts.id, bases),
+            first_left(store.push_outs_of(item), self.parts.id, bases),
         )
     }
 

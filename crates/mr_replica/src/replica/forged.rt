@@ -39,14 +39,14 @@ impl<K: Knowledge> Core<K> {
     fn is_early(&self, version: Version) -> bool
         ensures { result ≡ is_early self.now version }
     {
-        version.author() == self.id && self.parts.issued < version.counter()
+        version.author() == self.parts.id && self.parts.issued < version.counter()
     }
 
     // Whether the vector has such a version.
     fn has_early(&self, vector: &ConciseVector) -> bool
         ensures { result ≡ has_early self.now vector.now }
     {
-        self.parts.issued < highest(vector, self.id)
+        self.parts.issued < highest(vector, self.parts.id)
     }
 
     fn is_early_line(&self, item: ItemId, version: Version, below: &ConciseVector) -> bool

@@ -22,7 +22,7 @@ impl<K: Knowledge> Core<K> {
         requires { length self.now.log < self.now.event_limit }
         ensures { result ≡ next_version self.now }
     {
-        Version::try_new(self.id, self.parts.issued + 1).unwrap()
+        Version::try_new(self.parts.id, self.parts.issued + 1).unwrap()
     }
 
     // The vector of what a version of the item supersedes, where there is one, and where what would be
@@ -60,7 +60,7 @@ impl<K: Knowledge> Core<K> {
         ensures revision { IfOk result (λ arrival. arrival.revision ≡ record { item = item; version = version; below = below; message = message.now }) }
     {
         let revision = Revision::new(self.alloc, item, version, below, message.copy()?)?;
-        let selected = self.filter.select(revision.message());
+        let selected = self.parts.filter.select(revision.message());
         Arrival::of(self.alloc, selected, revision, self.parts.contents.store())
     }
 }

@@ -63,6 +63,6 @@ impl<K: Knowledge> Core<K> {
     {
         self.parts
             .streams
-            .prepare(stream, self.id, self.parts.contents.store())
+            .prepare(stream, self.parts.id, self.parts.contents.store())
     }
 }

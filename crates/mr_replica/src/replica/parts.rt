@@ -6,7 +6,7 @@ ghost use Rattle.mr_session.specs.Stream.{new_stream};
 ghost use Rattle.mr_session.specs.Table.{open_at, with_opened, with_closed};
 ghost use Rattle.mr_session.specs.Onward.{advanced};
 ghost use Rattle.mr_session.specs.declared.limits.TheConstants.{MAX_OPEN};
-ghost use Rattle.mr_replica.specs.inner.Parts.{parts_seen, HasBecome, IsDueIn, IsOfRecord, IsOfReceipt, IsReceiveOf, IsReleaseOf};
+ghost use Rattle.mr_replica.specs.inner.Parts.{parts_seen, HasBecome, IsDueIn, IsOfRecord, IsOfReceipt};
 
 use super::answer::Opening;
 use super::contents::{Arrival, Contents};
@@ -14,15 +14,19 @@ use super::end::Ended;
 use super::take::{Told, told_below};
 use crate::Event;
 use mr_feed::Entry;
+use mr_filter::Filter;
 use mr_forms::Knowledge;
 use mr_session::{Onward, Sessions, Streams};
-use mr_version::{ItemId, Version};
+use mr_version::{Author, ItemId, Version};
 use mr_wire::{Frame, Receipt, Record};
 use std::alloc::{AllocError, Global};
 
-/// What events change of a replica.
+/// A replica's setting, and what events change of it.
 #[derive(Drop)]
 pub struct Parts<K> {
+    pub id: Author,
+    pub filter: Filter,
+    pub event_limit: u32,
     /// How many versions were issued.
     pub issued: u32,
     pub knowledge: K,
@@ -63,14 +67,18 @@ pub enum Change<K> {
 
 impl<K: Knowledge> Parts<K> {
     ghost use Rattle.mr_forms.specs.Known.{AreSame};
-    ghost use Rattle.mr_replica.specs.inner.Parts.{new_parts, MayPut, IsPut, Enters, Learns, IsToldIn, released_in, ended_in};
+    ghost use Rattle.mr_replica.specs.State.{new_state};
+    ghost use Rattle.mr_replica.specs.inner.Parts.{MayPut, IsPut, Enters, Learns, IsToldIn, released_in, ended_in};
 
-    /// Nothing. It allocates nothing.
-    pub fn new(alloc: Global) -> Parts<K>
+    /// A replica to which nothing has happened. It allocates nothing.
+    pub fn new(alloc: Global, id: Author, filter: Filter, event_limit: u32) -> Parts<K>
         ensures knows_nothing { AreSame (K.form.known result.knowledge) (λ _ _. false) }
-        ensures is_empty { parts_seen result ≡ new_parts result.knowledge }
+        ensures is_empty { parts_seen result ≡ new_state id filter event_limit result.knowledge }
     {
         Parts {
+            id,
+            filter,
+            event_limit,
             issued: 0,
             knowledge: K::new(alloc),
             contents: Contents::new(alloc),
@@ -242,7 +250,7 @@ impl<K: Knowledge> Parts<K> {
 // The record that an event receives.
 fn record_of(event: &Event) -> &Record
     requires { IsOfRecord event.now }
-    ensures { IsReceiveOf event.now result.now }
+    ensures { event.now ≡ Event.Receive (Frame.Record result.now) }
 {
     match event {
         Event::Receive(Frame::Record(sent)) => sent,
@@ -253,7 +261,7 @@ fn record_of(event: &Event) -> &Record
 // The receipt that an event releases by.
 fn receipt_of(event: &Event) -> &Receipt
     requires { IsOfReceipt event.now }
-    ensures { IsReleaseOf event.now result.now }
+    ensures { event.now ≡ Event.Release result.now }
 {
     match event {
         Event::Release(receipt) => receipt,

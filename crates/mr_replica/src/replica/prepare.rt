@@ -15,7 +15,7 @@ pub struct Prepared<K> {
 }
 
 impl<K: Knowledge> Core<K> {
-    ghost use Rattle.mr_replica.specs.inner.Prepare.{IsToChange, IsChanged, Prepares};
+    ghost use Rattle.mr_replica.specs.inner.Prepare.{MayApply, IsChanged, Prepares};
 
     // What the event is answered and what it changes, or why it is refused.
     pub(crate) fn prepare(&self, event: &Event) -> Result<Prepared<K>, Refusal>
@@ -38,7 +38,7 @@ impl<K: Knowledge> Core<K> {
 
     // The change is put in, and the event noted; or memory is wanting, and nothing has changed.
     pub(crate) fn apply(&mut self, change: Change<K>, event: Event) -> Result<(), AllocError>
-        requires { IsToChange K.form self.old change event }
+        requires { MayApply K.form self.old change event }
         ensures { MatchResult result (λ _. IsChanged K.form self.old change event self.new) (λ _. self.new ≡ self.old) }
     {
         self.parts.put(change, &event)?;

@@ -68,9 +68,9 @@ impl<K: Knowledge> Core<K> {
         ensures refused { IfErr result (RefusesLate K.form self.now Event.Pull) }
     {
         let asked = self.asked()?;
-        let filter = self.filter.copy()?;
+        let filter = self.parts.filter.copy()?;
         let session = self.parts.sessions.opened() + 1;
-        Ok(Ask::new(self.alloc, self.id, session, filter, asked)?)
+        Ok(Ask::new(self.alloc, self.parts.id, session, filter, asked)?)
     }
 
     // What a request tells of what is known.

@@ -72,6 +72,7 @@ impl<K: Knowledge> Core<K> {
     }
 
     // The record is to be taken, by what it says.
+    #[tactic(auto, using(crate::proofs::Preparing::take_prepared))]
     fn prepare_taking(&self, sent: &Record) -> Result<Prepared<K>, Refusal>
         requires taken { record_refusal self.now sent.now ≡ None }
         requires kept { IsSent sent.now.header sent.now.body }
@@ -93,7 +94,7 @@ impl<K: Knowledge> Core<K> {
         ensures refusal { MatchResult result (λ _. record_refusal self.now sent.now ≡ None) (λ e. record_refusal self.now sent.now ≡ Some e) }
         ensures kept { IsSent sent.now.header sent.now.body }
     {
-        if sent.header().target != self.id {
+        if sent.header().target != self.parts.id {
             return Err(Refusal::NotForMe);
         }
         self.check_session(sent)?;

@@ -90,7 +90,7 @@ impl<K: Knowledge> Core<K> {
         ensures { IfOk result (λ comer. comer ≡ entering self.now body.now) }
     {
         match body {
-            Body::Item(revision) if self.filter.select(revision.message()) => {
+            Body::Item(revision) if self.parts.filter.select(revision.message()) => {
                 Ok(Some(revision.copy()?))
             }
             _ => Ok(None),

@@ -63,7 +63,7 @@ impl<K: Knowledge> Core<K> {
         ensures { IfOk result (IsReceiptFor self.now version) }
     {
         match self.parts.contents.store().head(version) {
-            Some(revision) => receipt_for(self.id, revision),
+            Some(revision) => receipt_for(self.parts.id, revision),
             None => unreachable!(),
         }
     }

@@ -1,6 +1,5 @@
 use Rattle.std.proofs.Common.{rules}
-use Rattle.std.specs.Vec.Iter.{into_iter_items}
-use Rattle.mr_concise.specs.Fragments.{IsTooHoley}
+use Rattle.mr_replica.proofs.Names.{IsTooHoley, into_iter_items}
 use Rattle.mr_replica.proofs.PieceLemmas.{pieces_more, among}
 use Rattle.mr_replica.proofs.pieces.pieces_of.Goals as goal
 

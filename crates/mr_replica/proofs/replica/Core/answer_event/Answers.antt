@@ -1,14 +1,10 @@
 use Rattle.std.proofs.Common.{Result, Ok, Err, refl, sym, subst, ap, ◌∙◌}
-use Rattle.std.proofs.lemmas.Result.{err_from_is_err_and}
-use Rattle.mr_replica.specs.StepThen.{answer_of}
-use Rattle.mr_replica.specs.Step.{Steps}
-use Rattle.mr_replica.specs.declared.event.Reply.{Reply}
-use Rattle.mr_replica.specs.declared.refusal.Refusal.{Refusal}
-use Rattle.mr_replica.proofs.Preparing.{may_change, step_refused, step_for_memory, step_changed}
+use Rattle.mr_replica.proofs.Names.{Refusal, Reply, Steps, answer_of, err_from_is_err_and}
+use Rattle.mr_replica.proofs.Preparing.{may_apply, step_refused, step_for_memory, step_changed}
 use Rattle.mr_replica.proofs.replica.Core.answer_event.Goals as goal
 
 pub apply-requires : goal.apply-requires
-apply-requires g c = may_change g.K.Knowledge.form c.args.self.now c.args.event c.in_ok-reply.field-0 c.in_ok-reply.ensures
+apply-requires g c = may_apply g.K.Knowledge.form c.args.self.now c.args.event c.in_ok-reply.field-0 c.in_ok-reply.ensures
 
 -- it was refused
 pub returns-in_err-reply-clause-steps : goal.returns-in_err-reply-clause-steps

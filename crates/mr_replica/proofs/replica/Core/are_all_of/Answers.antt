@@ -1,11 +1,7 @@
 use Rattle.std.proofs.Common.{◌≡◌, ◌&&◌, take, sym, ap, ◌∙◌, Option, Some, is_none}
-use Rattle.std.specs.Option.{option_map, option_map_or}
-use Rattle.mr_version.specs.Name.{Name, name_eq}
+use Rattle.mr_replica.proofs.Names.{Name, NotHeld, Rev, are_all_of, item_of_held, name_eq, option_map, option_map_or}
 use Rattle.mr_concise.proofs.NameLemmas.{name_eq_parts}
-use Rattle.mr_madewith.specs.Revision.{Rev}
-use Rattle.mr_replica.specs.State.{held, item_of_held}
-use Rattle.mr_replica.specs.Edit.{are_all_of}
-use Rattle.mr_replica.specs.declared.refusal.Refusal.TheVariants.{NotHeld}
+use Rattle.mr_replica.specs.State.{held}
 use Rattle.mr_replica.proofs.Choice.{find_here, find_none_more, list_all-take_more}
 use Rattle.mr_replica.proofs.replica.Core.are_all_of.Goals as goal
 

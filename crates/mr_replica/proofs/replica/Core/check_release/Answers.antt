@@ -1,11 +1,5 @@
 use Rattle.std.proofs.Common.{ap, ◌∙◌, List}
-use Rattle.std.specs.List.{list_any}
-use Rattle.mr_version.specs.Name.{Name}
-use Rattle.mr_madewith.specs.Revision.{Rev}
-use Rattle.mr_store.specs.Holdings.{Holdings}
-use Rattle.mr_store.specs.Revisions.{versions_of}
-use Rattle.mr_replica.specs.State.{State}
-use Rattle.mr_replica.specs.Release.{vouched}
+use Rattle.mr_replica.proofs.Names.{Holdings, Name, Rev, State, list_any, versions_of, vouched}
 use Rattle.mr_replica.proofs.Releasing.{any_of_versions, release_refused, release_goes_on}
 use Rattle.mr_replica.proofs.replica.Core.check_release.Goals as goal
 

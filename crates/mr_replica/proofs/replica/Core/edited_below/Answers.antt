@@ -1,20 +1,7 @@
 use Rattle.std.proofs.Common.{◌≡◌, ◌↔◌, List, IfOk, IsErrOf, subst, ap, ◌∙◌}
-use Rattle.std.specs.Option.{option_copied}
-use Rattle.mr_forms.specs.Sets.{Versions}
+use Rattle.mr_replica.proofs.Names.{AreColumnsOf, HasTooManyHoles, Holdings, IfOk-weaker, IsSound, Name, Rev, State, Track, Versions, below_for, by_held}
+use Rattle.mr_replica.proofs.Names.{edited_item, filled_below, in_any, last_of, option_copied}
 use Rattle.mr_forms.specs.declared.fault.FormFault.TheVariants.{TooManyHoles}
-use Rattle.mr_concise.specs.Vector.{HasTooManyHoles}
-use Rattle.mr_concise.specs.AnyOf.{in_any}
-use Rattle.mr_madewith.specs.MadeWith.{filled_below, AreColumnsOf}
-use Rattle.mr_madewith.specs.Revision.{Rev}
-use Rattle.mr_madewith.specs.Trail.{Track, last_of}
-use Rattle.mr_store.specs.Holdings.{Holdings}
-use Rattle.mr_store.specs.HeldVersions.{by_held}
-use Rattle.mr_replica.specs.State.{State}
-use Rattle.mr_replica.specs.Issue.{below_for}
-use Rattle.std.proofs.lemmas.Result.{IfOk-weaker}
-use Rattle.mr_version.specs.Name.{Name}
-use Rattle.mr_replica.specs.inner.Sound.{IsSound}
-use Rattle.mr_replica.specs.Edit.{edited_item}
 use Rattle.mr_replica.proofs.Below.{below_for-sources, edited_next}
 use Rattle.mr_replica.proofs.replica.Core.edited_below.Goals as goal
 

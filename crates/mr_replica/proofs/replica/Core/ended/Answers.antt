@@ -1,10 +1,6 @@
 use Rattle.std.proofs.Common.{Bool, List, map, filter, ap, ◌∙◌}
-use Rattle.mr_concise.specs.declared.vector.AuthorColumn.{AuthorColumn}
-use Rattle.mr_madewith.specs.Revision.{Rev}
-use Rattle.mr_store.specs.Holdings.{Holdings}
+use Rattle.mr_replica.proofs.Names.{AuthorColumn, Holdings, Rev, State, dropped}
 use Rattle.mr_store.specs.Unheld.{is_unheld as covers_unheld}
-use Rattle.mr_replica.specs.State.{State}
-use Rattle.mr_replica.specs.Issue.{dropped}
 use Rattle.mr_replica.proofs.Merging.{unheld_same}
 use Rattle.mr_replica.proofs.replica.Core.ended.Goals as goal
 

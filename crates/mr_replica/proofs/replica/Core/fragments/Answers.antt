@@ -1,8 +1,5 @@
 use Rattle.std.proofs.Common.{ap, map}
-use Rattle.std.proofs.lemmas.Result.{IfOk-weaker, on_ok_weaker}
-use Rattle.mr_forms.specs.Parts.{part_of, ArePartsThat}
-use Rattle.mr_replica.specs.State.{State}
-use Rattle.mr_replica.specs.Fragments.{HaveKnown}
+use Rattle.mr_replica.proofs.Names.{ArePartsThat, HaveKnown, IfOk-weaker, State, on_ok_weaker, part_of}
 use Rattle.mr_replica.proofs.FragmentLemmas.{concise_have, alike_parts, holey_part, no_holey_part, one_text}
 use Rattle.mr_replica.proofs.replica.Core.fragments.Goals as goal
 

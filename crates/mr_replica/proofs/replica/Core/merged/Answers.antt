@@ -1,11 +1,5 @@
 use Rattle.std.proofs.Common.{ap, ◌∙◌, ◌||◌, map}
-use Rattle.std.proofs.lemmas.Result.{IfOk-weaker, on_ok_weaker}
-use Rattle.mr_forms.specs.Known.{AreSame, with_pairs}
-use Rattle.mr_forms.specs.Covered.{all_covered}
-use Rattle.mr_concise.specs.Vector.{vector_has}
-use Rattle.mr_wire.specs.Values.{piece_of}
-use Rattle.mr_session.specs.Stream.{claimed}
-use Rattle.mr_replica.specs.Receive.{merged_by}
+use Rattle.mr_replica.proofs.Names.{AreSame, IfOk-weaker, all_covered, claimed, merged_by, on_ok_weaker, piece_of, vector_has, with_pairs}
 use Rattle.mr_replica.proofs.Merging.{all_claimed, merged_fits, first_of_all, merged_refused}
 use Rattle.mr_replica.proofs.replica.Core.merged.Goals as goal
 

@@ -1,6 +1,5 @@
 use Rattle.std.proofs.Common.{ap, ◌∙◌}
-use Rattle.std.proofs.lemmas.Result.{IfOk-weaker}
-use Rattle.mr_replica.specs.State.{State}
+use Rattle.mr_replica.proofs.Names.{IfOk-weaker, State}
 use Rattle.mr_replica.proofs.Kept.{all_may_list, holey_part}
 use Rattle.mr_replica.proofs.PieceLemmas.{made_claim}
 use Rattle.mr_replica.proofs.replica.Core.pieces.Goals as goal

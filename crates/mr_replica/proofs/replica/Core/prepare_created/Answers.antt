@@ -1,18 +1,10 @@
 use Rattle.std.proofs.Common.{◌≡◌, ◌↔◌, IsErrOf, refl, Result, Ok, Err, List, sym, ap, subst, ◌∙◌}
-use Rattle.std.proofs.lemmas.Result.{err_from_is_err_and}
-use Rattle.mr_forms.specs.declared.fault.FormFault.{FormFault}
+use Rattle.mr_replica.proofs.Names.{AreColumnsOf, AuthorColumn, Changes, Create, FormFault, HasTooManyHoles, OutOfMemory, created, err_from_is_err_and}
+use Rattle.mr_replica.proofs.Names.{few-vector, nothing}
 use Rattle.mr_forms.specs.declared.fault.FormFault.TheVariants as faults
-use Rattle.mr_concise.specs.declared.vector.AuthorColumn.{AuthorColumn}
-use Rattle.mr_concise.specs.Vector.{HasTooManyHoles}
-use Rattle.mr_concise.proofs.VersionLemmas.{few-vector}
-use Rattle.mr_madewith.specs.MadeWith.{AreColumnsOf}
-use Rattle.mr_replica.specs.Create.{created}
-use Rattle.mr_replica.specs.Issue.{nothing}
-use Rattle.mr_replica.specs.declared.event.Event.TheVariants.{Create}
-use Rattle.mr_replica.specs.declared.refusal.Refusal.TheVariants.{OutOfMemory}
 use Rattle.mr_replica.proofs.Below.{no_columns}
 use Rattle.mr_replica.proofs.Answered.{all_fit, refused_issue, late_create}
-use Rattle.mr_replica.proofs.Preparing.{late_refused, create_prepared}
+use Rattle.mr_replica.proofs.Preparing.{late_refused, issue_prepared}
 use Rattle.mr_replica.proofs.replica.Core.prepare_created.Goals as goal
 
 -- there is a vector of nothing
@@ -52,6 +44,6 @@ returns g c =
     let none = no_columns c.new.result c.new.ensures.is c.new.ensures.none in
     let same : c.new.result ≡ c.in_ok-below.below = ok_same c.new.result c.in_ok-below.below c.in_ok-below.ensures.ok in
     let fits = rw (c.new-item.ensures, c.next_version-version.ensures) at c.in_ok-below.ensures.fits in
-    create_prepared form s m c.next_version-version.result c.next_version-version.ensures c.in_ok-below.below (subst (AreColumnsOf nothing) same none) c.in_ok-arrival.arrival
-    (rw (c.new-item.ensures, c.next_version-version.ensures) at c.in_ok-arrival.ensures.revision) c.in_ok-arrival.ensures.to_enter
+    issue_prepared form s (created s m) (Create m) c.next_version-version.result c.next_version-version.ensures c.in_ok-below.below (subst (AreColumnsOf nothing) same none) c.in_ok-arrival.arrival
+    (rw (c.new-item.ensures, c.next_version-version.ensures) at c.in_ok-arrival.ensures.revision) c.in_ok-arrival.ensures.to_enter (Changes form s (Create m)) (λ new h. h)
     (all_fit form s (created s m) (Ok c.new.result) (fits_nothing c.new.result none (Ok c.new.result) refl) (λ many. cc many) fits)

@@ -1,10 +1,7 @@
 use Rattle.std.proofs.Common.{Err, sym, ap, ◌∙◌}
-use Rattle.std.proofs.lemmas.Result.{err_from_is_err_and}
-use Rattle.mr_replica.specs.Edit.{edited}
-use Rattle.mr_replica.specs.declared.event.Event.TheVariants.{Edit}
-use Rattle.mr_replica.specs.declared.refusal.Refusal.TheVariants.{OutOfMemory}
+use Rattle.mr_replica.proofs.Names.{Changes, Edit, OutOfMemory, edited, err_from_is_err_and}
 use Rattle.mr_replica.proofs.Answered.{all_fit, refused_issue, late_edit}
-use Rattle.mr_replica.proofs.Preparing.{late_refused, edit_prepared}
+use Rattle.mr_replica.proofs.Preparing.{late_refused, issue_prepared}
 use Rattle.mr_replica.proofs.replica.Core.prepare_edited.Goals as goal
 
 pub returns-in_err-below : goal.returns-in_err-below
@@ -43,6 +40,6 @@ returns g c =
     let holes = rw (c.as_slice.ensures, c.requires.item) at c.edited_below-made.ensures.holes in
     let fits = rw c.requires.item at c.in_ok-below.ensures.fits in
     let columns = rw (c.in_ok-below.ensures.ok, c.as_slice.ensures, c.requires.item) at c.edited_below-made.ensures.ok in
-    edit_prepared form s bases m c.next_version-version.result c.next_version-version.ensures c.in_ok-below.below columns c.in_ok-arrival.arrival
-    (rw (c.requires.item, c.next_version-version.ensures) at c.in_ok-arrival.ensures.revision) c.in_ok-arrival.ensures.to_enter
+    issue_prepared form s (edited s bases m) (Edit bases m) c.next_version-version.result c.next_version-version.ensures c.in_ok-below.below columns c.in_ok-arrival.arrival
+    (rw (c.requires.item, c.next_version-version.ensures) at c.in_ok-arrival.ensures.revision) c.in_ok-arrival.ensures.to_enter (Changes form s (Edit bases m)) (λ new h. h)
     (all_fit form s (edited s bases m) c.edited_below-made.result holes (λ many. cc (sym c.in_ok-below.ensures.ok ∙ many)) fits)

@@ -1,12 +1,5 @@
 use Rattle.std.proofs.Common.{◌≡◌, Some, Err, true, sym, ap, subst, ◌∙◌}
-use Rattle.std.specs.Option.{option_copied}
-use Rattle.std.proofs.lemmas.Result.{err_from_is_err_and}
-use Rattle.mr_wire.specs.declared.frame.Header.{Header}
-use Rattle.mr_session.specs.Session.{is_full}
-use Rattle.mr_session.specs.Table.{open_at}
-use Rattle.mr_replica.specs.State.{State}
-use Rattle.mr_replica.specs.inner.Sound.{IsSound}
-use Rattle.mr_replica.specs.Receive.{session_for}
+use Rattle.mr_replica.proofs.Names.{Header, IsSound, State, err_from_is_err_and, is_full, open_at, option_copied, session_for}
 use Rattle.mr_replica.proofs.Preparing.{partial_prepared, full_prepared, end_refused}
 use Rattle.mr_replica.proofs.replica.Core.prepare_end.Goals as goal
 
@@ -16,7 +9,7 @@ returns-then-not-is_full g c =
     let sent = c.args.sent.now in
     let found : session_for c.args.self.now sent ≡ Some c.in-Some.session.now =
     ap (λ (t : State g.row.K.Denot). session_for t sent) (sym c.self.view_is) ∙ ap (λ (h : Header). open_at c.self.inside.parts.sessions h.session) (sym c.header-number.ensures.is) ∙ sym c.get.ensures ∙ ap option_copied c.in-Some.is in
-    partial_prepared g.K.Knowledge.form c.args.self.now sent c.in-Some.session.now c.header-number.result.session (ap (λ (h : Header). h.session) c.header-number.ensures.is) found (sym c.is_full.ensures ∙ c.if-not-is_full.true)
+    partial_prepared g.K.Knowledge.form c.args.self.now sent c.requires.kept c.requires.taken c.in-Some.session.now c.header-number.result.session (ap (λ (h : Header). h.session) c.header-number.ensures.is) found (sym c.is_full.ensures ∙ c.if-not-is_full.true)
 
 -- a fragment has no value, or there is no memory
 pub returns-in_err-ended : goal.returns-in_err-ended
@@ -38,15 +31,5 @@ returns g c =
     let full : is_full c.in-Some.session.now.origin ≡ true = sym c.is_full.ensures ∙ c.if-not-is_full.false in
     let sound = subst (IsSound form) c.self.view_is c.self.invariant in
     let ended = c.in_ok-ended.ensures in
-    full_prepared form c.args.self.now c.in_ok-ended.ended sent
-    (record {
-      take = record { taken = c.requires.taken; kept = c.requires.kept };
-      session = c.in-Some.session.now;
-      is_open = found;
-      number = ended.number ∙ ap (λ (h : Header). h.session) c.header-number.ensures.is;
-      known = ended.knowledge;
-      left = ended.left;
-      entries = ended.entries;
-      in_order = sound.heads_in_order;
-    })
-    full (rw full ended.fits)
+    full_prepared form c.args.self.now sent c.requires.kept c.requires.taken c.in_ok-ended.ended c.in-Some.session.now (ended.number ∙ ap (λ (h : Header). h.session) c.header-number.ensures.is) found full ended.knowledge ended.left ended.entries
+    sound.heads.in_order ended.fits

@@ -1,6 +1,5 @@
 use Rattle.std.proofs.Common.{◌≡◌, Some, refl, sym, ◌∙◌}
-use Rattle.mr_wire.specs.declared.frame.Body.TheVariants.{Item, MoveOut}
-use Rattle.mr_replica.specs.inner.Taking.{told_line, told_by}
+use Rattle.mr_replica.proofs.Names.{Item, MoveOut, told_by, told_line}
 use Rattle.mr_replica.proofs.Preparing.{line_prepares, body_end_prepares}
 use Rattle.mr_replica.proofs.replica.Core.prepare_taking.Goals as goal
 

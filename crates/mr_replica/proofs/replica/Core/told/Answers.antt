@@ -1,7 +1,5 @@
 use Rattle.std.proofs.Common.{Err, ap, ◌∙◌}
-use Rattle.std.proofs.lemmas.Result.{err_from_is_err_and}
-use Rattle.mr_replica.specs.State.{State}
-use Rattle.mr_replica.specs.inner.Taking.{below_told, told_by}
+use Rattle.mr_replica.proofs.Names.{State, below_told, err_from_is_err_and, told_by}
 use Rattle.mr_replica.proofs.Told.{line_fits}
 use Rattle.mr_replica.proofs.replica.Core.told.Goals as goal
 

@@ -1,6 +1,5 @@
 use Rattle.std.proofs.Common.{subst, sym}
-use Rattle.mr_replica.specs.State.{State}
-use Rattle.mr_replica.specs.Replay.{IsItsLog}
+use Rattle.mr_replica.proofs.Names.{IsItsLog, State}
 use Rattle.mr_replica.proofs.replica.Replica.copy.Goals as goal
 
 pub invariant_of-result : goal.invariant_of-result

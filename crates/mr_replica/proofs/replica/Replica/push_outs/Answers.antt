@@ -1,6 +1,5 @@
 use Rattle.std.proofs.Common.{subst}
-use Rattle.mr_replica.specs.State.{State}
-use Rattle.mr_replica.specs.Replay.{IsItsLog}
+use Rattle.mr_replica.proofs.Names.{IsItsLog, State}
 use Rattle.mr_replica.proofs.Retiring.{has_released}
 use Rattle.mr_replica.proofs.replica.Replica.push_outs.Goals as goal
 

@@ -1,7 +1,5 @@
 use Rattle.std.proofs.Common.{subst}
-use Rattle.mr_replica.specs.State.{State}
-use Rattle.mr_replica.specs.Step.{IsDecided}
-use Rattle.mr_replica.specs.StepThen.{answer_of}
+use Rattle.mr_replica.proofs.Names.{IsDecided, State, answer_of}
 use Rattle.mr_replica.proofs.Alike.{step_decided}
 use Rattle.mr_replica.proofs.Replaying.{kept}
 use Rattle.mr_replica.proofs.replica.Replica.step_then.Goals as goal

@@ -1,10 +1,5 @@
 use Rattle.std.proofs.Common.{◌≡◌, ◌<◌, ◌-◌, ◌∷◌, arith, subst, ap, ◌∙◌, map, length, List, All}
-use Rattle.std.specs.Vec.Iter.{into_iter_items}
-use Rattle.std.proofs.lemmas.List.Elements.{All-tail}
-use Rattle.mr_concise.specs.Fragments.{ConciseFragment}
-use Rattle.mr_wire.specs.Values.{Piece, AreItems, piece_of}
-use Rattle.mr_wire.specs.Spelling.{fragment_bytes}
-use Rattle.mr_wire.specs.declared.frame.TheConstants.{MAX_ASKED_BYTES}
+use Rattle.mr_replica.proofs.Names.{All-tail, AreItems, ConciseFragment, MAX_ASKED_BYTES, Piece, fragment_bytes, into_iter_items, piece_of}
 use Rattle.mr_replica.proofs.PullLemmas.{FitsSoFar, fits_more, fits_until}
 use Rattle.mr_replica.proofs.replica.pull.first_fitting.Goals as goal
 

@@ -1,7 +1,5 @@
 use Rattle.std.proofs.Common.{map, All}
-use Rattle.std.specs.Vec.Iter.{into_iter_items}
-use Rattle.mr_wire.specs.Values.{AreItems, piece_of}
-use Rattle.mr_wire.specs.declared.frame.TheConstants.{MAX_ASKED_BYTES}
+use Rattle.mr_replica.proofs.Names.{AreItems, MAX_ASKED_BYTES, into_iter_items, piece_of}
 use Rattle.mr_replica.proofs.PullLemmas.{FitsSoFar}
 use Rattle.mr_replica.proofs.replica.pull.first_fitting.Given as goal
 

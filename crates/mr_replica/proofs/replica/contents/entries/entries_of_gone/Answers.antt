@@ -1,9 +1,5 @@
 use Rattle.std.proofs.Common.{◌≡◌, ◌+◌, ◌++◌, ◌∷◌, [], true, false, List, map, filter, take, take_all, arith, sym, ap, ◌∙◌, append-nil}
-use Rattle.std.proofs.lemmas.List.{take_more, map-append}
-use Rattle.std.proofs.lemmas.List.Elements.{filter-append}
-use Rattle.mr_version.specs.Name.{Name}
-use Rattle.mr_forms.specs.Sets.{Versions}
-use Rattle.mr_store.specs.Leaving.{leaves}
+use Rattle.mr_replica.proofs.Names.{Name, Versions, filter-append, leaves, map-append, take_more}
 use Rattle.mr_replica.proofs.Releasing.{gone_of, gone_of_versions}
 use Rattle.mr_replica.proofs.replica.contents.entries.entries_of_gone.Goals.{then-leaves+in_ok-push, else-leaves}
 use Rattle.mr_replica.proofs.replica.contents.entries.entries_of_gone.Goals as goal
