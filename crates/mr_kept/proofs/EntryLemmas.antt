@@ -1,23 +1,10 @@
 -- entries of events, one after the other
 use Rattle.std.proofs.Common.{zero, suc, ◌≡◌, ℕ, ◌+◌, ◌-◌, ◌<◌, ◌≤◌, List, [], ◌∷◌, ◌++◌, length, take, drop, get_or, arith, refl, sym, ap, subst, ◌∙◌, append_assoc, append-nil}
-use Rattle.std.proofs.lemmas.List.{map-append, take_more}
-use Rattle.std.proofs.Math.Seq.{take-length}
-use Rattle.std.specs.declared.alloc.Global.{Global}
-use Rattle.mr_journal.specs.Format.{contents}
-use Rattle.std.specs.List.{AllByRecursion, flat_map}
-use Rattle.std.specs.Prelude.{Vec, map, replicate}
+use Rattle.mr_kept.proofs.Names.{AllBelong, AllByRecursion, AreSpelled, Belongs, Entry, Event, Global, HeadParts, IsEntry, MAX_EVENTS, Next, NoteParts}
+use Rattle.mr_kept.proofs.Names.{Spells, Vec, contents, counted, entry_bytes, events_of, events_of_entry, flat_map, issued_after, map, map-append, notes_of}
+use Rattle.mr_kept.proofs.Names.{notes_of_entry, replicate, take-length, take_more}
 use Rattle.std.proofs.lemmas.List.Concat.{flat_map-append, flat_map-cons}
-use Rattle.mr_replica.specs.declared.event.Event.{Event}
-use Rattle.mr_replica.specs.declared.event.Event.TheVariants.{Next}
-use Rattle.mr_replica.specs.declared.replica.TheConstants.{MAX_EVENTS}
-use Rattle.mr_entry.specs.Head.{HeadParts}
-use Rattle.mr_entry.specs.Events.{events_of, events_of_entry}
-use Rattle.mr_entry.specs.Grammar.{IsEntry, Spells}
-use Rattle.mr_entry.specs.Note.{NoteParts}
-use Rattle.mr_entry.specs.Spelling.{entry_bytes}
-use Rattle.mr_entry.specs.declared.entry.Entry.{Entry}
 use Rattle.mr_entry.specs.declared.entry.Entry.TheVariants as entry
-use Rattle.mr_kept.specs.Entries.{AllBelong, AreSpelled, Belongs, counted, issued_after, notes_of, notes_of_entry}
 
 -- ---- lists
 
@@ -41,10 +28,7 @@ contents_first (y ∷ ys) x some is =
     ap (λ (v : Vec ℕ Global). v.items ∷ contents ys) (sym is) ∙ ap (λ (l : List (Vec ℕ Global)). x.items ∷ contents l) (sym rest)
 
 pub spelled_append : (xs ys : List Entry) (a b : List (List ℕ)) → AreSpelled xs a → AreSpelled ys b → AreSpelled (xs ++ ys) (a ++ b)
-spelled_append xs ys a b h k = record {
-  in_grammar = all_append IsEntry xs ys h.in_grammar k.in_grammar;
-  written = ap (λ (l : List (List ℕ)). l ++ b) h.written ∙ ap (λ (l : List (List ℕ)). map entry_bytes xs ++ l) k.written ∙ sym (map-append entry_bytes xs ys);
-}
+spelled_append xs ys a b h k = grind (arith, all_append, map-append)
 
 pub spelled_one : (x : Entry) (text : List ℕ) → IsEntry x → text ≡ entry_bytes x → AreSpelled (x ∷ []) (text ∷ [])
 spelled_one x text is e = record { in_grammar = (is, tt); written = ap (λ (t : List ℕ). t ∷ []) e }

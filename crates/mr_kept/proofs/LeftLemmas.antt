@@ -1,28 +1,10 @@
 -- what a commit leaves has the log of a replica
+use Rattle.std.proofs.Common.{arith}
 use Rattle.std.proofs.Common.{◌≡◌, ◌⊎◌, inl, inr, ⊎_elim, Ok, ℕ, List, [], ◌∷◌, ◌++◌, sym, ap, subst, ◌∙◌, append_assoc, append-nil, refl}
-use Rattle.std.proofs.lemmas.List.{take-append-drop}
-use Rattle.std.specs.Prelude.{map}
-use Rattle.std.specs.List.{AllByRecursion}
-use Rattle.mr_filter.specs.Filter.{ClauseParts, IsFilter}
-use Rattle.mr_filter.specs.Grammar.{Reads}
-use Rattle.mr_forms.specs.Known.{Form}
-use Rattle.mr_journal.specs.Format.{Stands}
-use Rattle.mr_journal.specs.Journal.{device_of}
-use Rattle.mr_entry.specs.Events.{events_of}
-use Rattle.mr_entry.specs.Grammar.{IsEntry}
-use Rattle.mr_entry.specs.Head.{HeadParts}
-use Rattle.mr_entry.specs.Note.{NoteParts}
-use Rattle.mr_entry.specs.Spelling.{entry_bytes}
-use Rattle.mr_entry.specs.declared.entry.Entry.{Entry}
-use Rattle.mr_replica.specs.Growing.{IsOfSameSetting}
-use Rattle.mr_replica.specs.Replay.{AdmitsAll, IsItsLog, Replays}
-use Rattle.mr_replica.specs.State.{State}
-use Rattle.mr_replica.specs.declared.event.Event.{Event}
-use Rattle.mr_replica.proofs.Replaying.{step_log, step_setting}
-use Rattle.mr_kept.specs.declared.journaled.Journaled.{Journaled}
-use Rattle.mr_kept.specs.Entries.{AreSpelled, notes_of}
-use Rattle.mr_kept.specs.Kept.{AreHeaded, IsKept, entries_waiting, head_of, issued_of, journal_of, kept_of, notes_waiting, replica_of, waiting}
-use Rattle.mr_kept.specs.Whole.{HasLog, IsOf}
+use Rattle.mr_kept.proofs.Names.{AdmitsAll, AllByRecursion, AreHeaded, AreSpelled, ClauseParts, Entry, Event, Form, HasLog, HeadParts, IsEntry}
+use Rattle.mr_kept.proofs.Names.{IsItsLog, IsKept, IsOf, IsOfSameSetting, Journaled, NoteParts, Replays, Stands, State, device_of, entries_waiting}
+use Rattle.mr_kept.proofs.Names.{entry_bytes, events_of, head_of, issued_of, journal_of, kept_of, map, notes_of, notes_waiting, replica_of, step_log}
+use Rattle.mr_kept.proofs.Names.{step_setting, take-append-drop, waiting}
 use Rattle.mr_kept.proofs.CloseLemmas.{same_setting, setting_on}
 use Rattle.mr_kept.proofs.EntryLemmas.{all_append, events_append, events_head, notes_append, notes_head}
 use Rattle.mr_kept.proofs.RunLemmas.{batch_notes, batch_tells}
@@ -77,12 +59,7 @@ module _ {K : Type 0} (form : Form K) where
 
   -- the head of a replica is that of each of its setting
   same_head : (head : HeadParts) (s t : State K) → IsOfSameSetting t s → IsOf head s → IsOf head t
-  same_head head s t same is = record {
-    tells = record { id = sym same.id ∙ is.tells.id; filter = subst (λ (f : List ClauseParts). Reads head.filter f) same.filter is.tells.filter; event_limit = sym same.event_limit ∙ is.tells.event_limit };
-    is_filter = subst (λ (f : List ClauseParts). IsFilter f) same.filter is.is_filter;
-    limit_from = is.limit_from;
-    limit_to = is.limit_to;
-  }
+  same_head head s t same is = grind arith
 
   pub head_on : (head : HeadParts) (s t : State K) → IsOfSameSetting s t → IsOf head s → IsOf head t
   head_on head s t same is = same_head head s t (record { id = sym same.id; filter = sym same.filter; event_limit = sym same.event_limit }) is

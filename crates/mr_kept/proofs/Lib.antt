@@ -1,4 +1,5 @@
 -- lemmas
+pub mod Names
 pub mod EntryLemmas
 pub mod RunLemmas
 pub mod RoomLemmas

@@ -1,37 +1,13 @@
 -- journals that are begun, opened and closed
-use Rattle.std.proofs.Common.{Ok, ◌≡◌, ◌⊎◌, inl, inr, ⊎_elim, ℕ, ◌-◌, ◌≤◌, ◌==◌, Bool, true, false, List, [], ◌∷◌, ◌++◌, length, get_or, take, drop, refl, sym, ap, subst, ◌∙◌, arith, append-nil}
-use Rattle.std.specs.Prelude.{◌&&◌, MatchBool, nat_le, map, Vec}
-use Rattle.std.specs.declared.alloc.Global.{Global}
-use Rattle.std.specs.List.{AllByRecursion}
-use Rattle.std.proofs.Math.Seq.{take-length, drop-append_seam}
-use Rattle.std.proofs.lemmas.List.{map-append, nil_from_length}
-use Rattle.std.proofs.lemmas.Bool.{eqb-true, false≢true, le-leb, leb-true}
-use Rattle.mr_forms.specs.Known.{Form}
-use Rattle.mr_filter.specs.Filter.{ClauseParts}
-use Rattle.mr_filter.specs.Grammar.{Reads}
-use Rattle.mr_journal.specs.Device.{LeavesOnly}
-use Rattle.mr_journal.specs.Format.{StandAlike, Stands, contents}
-use Rattle.mr_journal.specs.Journal.{Keeps, device_of}
-use Rattle.mr_journal.specs.declared.journal.Journal.{Journal}
-use Rattle.mr_journal.proofs.Moments.{joined, widened}
-use Rattle.mr_entry.specs.Head.{HeadParts}
-use Rattle.mr_entry.specs.Note.{NoteParts}
-use Rattle.mr_entry.specs.Events.{events_of}
-use Rattle.mr_entry.specs.Grammar.{IsEntry, Spells}
-use Rattle.mr_entry.specs.Spelling.{entry_bytes}
-use Rattle.mr_entry.specs.declared.entry.Entry.{Entry}
+use Rattle.std.proofs.Common.{Ok, ◌≡◌, ◌⊎◌, inl, inr, ⊎_elim, ℕ, ◌-◌, ◌≤◌, ◌==◌, Bool, true, List, [], ◌∷◌, ◌++◌, length, get_or, take, drop, refl, sym, ap, subst, ◌∙◌, arith, append-nil}
+use Rattle.mr_kept.proofs.Names.{AdmitsAll, AllByRecursion, AreClosed, AreInOrder, AreSpelled, Begins, ClauseParts, Entry, Event, Form, Global, HasCut}
+use Rattle.mr_kept.proofs.Names.{HeadParts, IsClosedIn, IsCut, IsEntry, IsFull, IsKept, IsOfSameSetting, IsRead, IsReplayed, Journal, Journaled, Keeps}
+use Rattle.mr_kept.proofs.Names.{LeavesOnly, MatchBool, NoteParts, Reads, Reopens, Replays, Spells, StandAlike, Stands, State, Takes, Tells, Vec}
+use Rattle.mr_kept.proofs.Names.{batch_entries, closers, contents, device_of, drop-append_seam, entries_of, entries_waiting, entry_bytes, eqb-true, events_of}
+use Rattle.mr_kept.proofs.Names.{false≢true, head_of, issued_after, issued_of, joined, journal_of, kept_of, le-leb, leb-true, map, map-append, nat_le}
+use Rattle.mr_kept.proofs.Names.{nil_from_length, notes_of, notes_waiting, nothing_waits, replica_of, step_setting, take-length, waiting, widened, ◌&&◌}
 use Rattle.mr_entry.specs.declared.entry.Entry.TheVariants as entry
-use Rattle.mr_replica.specs.State.{State}
-use Rattle.mr_replica.specs.Growing.{IsOfSameSetting}
-use Rattle.mr_replica.specs.Replay.{AdmitsAll, Replays}
-use Rattle.mr_replica.specs.declared.event.Event.{Event}
-use Rattle.mr_replica.proofs.Replaying.{step_setting}
-use Rattle.mr_kept.specs.declared.journaled.Journaled.{Journaled}
-use Rattle.mr_kept.specs.Closing.{AreClosed, IsCut, IsFull, Takes, closers}
-use Rattle.mr_kept.specs.Entries.{AreInOrder, AreSpelled, batch_entries, entries_of, issued_after, notes_of}
-use Rattle.mr_kept.specs.Kept.{IsKept, Tells, entries_waiting, head_of, issued_of, journal_of, kept_of, nothing_waits, notes_waiting, replica_of, waiting}
-use Rattle.mr_kept.specs.Opening.{Begins, GoesOn, HasCut, IsReplayed, Reopens}
-use Rattle.mr_kept.specs.inner.Opening.{IsClosedIn, IsRead}
+use Rattle.mr_kept.specs.Opening.{GoesOn}
 use Rattle.mr_kept.proofs.CloseLemmas.{same_setting, setting_on, taken_cuts}
 use Rattle.mr_kept.proofs.EntryLemmas.{contents_first, events_head}
 use Rattle.mr_kept.proofs.IssuedLemmas.{replayed_issued}
@@ -48,12 +24,7 @@ pub record IsHeaded (texts rest : List (List ℕ)) (head : HeadParts) (filter : 
 
 pub is_headed : {head : HeadParts} {filter : List ClauseParts} (entries items : List (Vec ℕ Global)) (x : Vec ℕ Global) (bytes text : List ℕ) → items ≡ entries → 1 ≤ length items → x ≡ get_or items 0 x → bytes ≡ x.items
     → Spells (entry.Head head) bytes → text ≡ head.filter → Reads text filter → IsHeaded (contents entries) (contents (take (length items - 1) (drop 1 items))) head filter
-is_headed {head} {filter} entries items x bytes text same some is bytes_is spells text_is reads = record {
-  text = x.items;
-  first = ap contents (sym same) ∙ contents_first items x some is;
-  spells = subst (λ (t : List ℕ). Spells (entry.Head head) t) bytes_is spells;
-  reads = subst (λ (t : List ℕ). Reads t filter) text_is reads;
-}
+is_headed entries items x bytes text same some is bytes_is spells text_is reads = grind (arith, contents_first)
 
 module _ {K : Type 0} (form : Form K) where
   pub all_setting : (s new : State K) (events : List Event) → AdmitsAll form s events new → IsOfSameSetting s new
@@ -62,10 +33,7 @@ module _ {K : Type 0} (form : Form K) where
 
   -- a replica that was replayed is of the id, the limit and the filter that it was replayed with
   pub replayed_setting : (id : ℕ) (filter : List ClauseParts) (event_limit : ℕ) (events : List Event) (s : State K) → Replays form id filter event_limit events s → (s.id ≡ id) × (s.event_limit ≡ event_limit) × (s.filter ≡ filter)
-  replayed_setting id filter event_limit events s h =
-      let same = all_setting h.fresh s events h.admits in
-      let fresh = h.is_fresh.is_empty in
-      (same.id ∙ ap (λ (z : State K). z.id) fresh, same.event_limit ∙ ap (λ (z : State K). z.event_limit) fresh, same.filter ∙ ap (λ (z : State K). z.filter) fresh)
+  replayed_setting id filter event_limit events s h = grind (arith, all_setting)
 
   -- a head and what was gathered behind it
   pub is_replayed : {texts rest : List (List ℕ)} {head : HeadParts} {filter : List ClauseParts} → IsHeaded texts rest head filter → (list : List Entry) (events : List Event) (id limit kept issued : ℕ) (notes : List NoteParts) (s : State K)
@@ -95,12 +63,10 @@ pub closed_on : {K : Type 0} (s new : State K) → new ≡ s → AreClosed s →
 closed_on {K} s new same closed = subst (λ (z : State K). AreClosed z) (sym same) closed
 
 both_hold : (a b : Bool) → a ≡ true → b ≡ true → (a && b) ≡ true
-both_hold true b h k = k
-both_hold false b h k = h
+both_hold a b h k = grind arith
 
 both_held : (a b : Bool) → (a && b) ≡ true → (a ≡ true) × (b ≡ true)
-both_held true b h = (refl, h)
-both_held false b h = absurd (false≢true h)
+both_held a b h = grind (arith, false≢true)
 
 module _ {K D V : Type 0} where
   -- all is kept
@@ -122,33 +88,12 @@ module _ {K D V : Type 0} {seen : D → List ℕ} {may_leave : D → List ℕ �
   -- what was replayed of a journal's entries
   pub kept_read : (form : Form K) (texts : List (List ℕ)) (notes : List NoteParts) (j : Journaled K D V) (is : IsReplayed form texts (head_of j) (replica_of j) (kept_of j) (issued_of j) notes) → Keeps seen may_leave texts (journal_of j)
       → IsKept seen may_leave (entry.Head (head_of j) ∷ is.entries) j
-  kept_read form texts notes j is keeps =
-      let log : List Event = (replica_of j).log in
-      let told : events_of (entry.Head (head_of j) ∷ is.entries) ≡ log = events_head (head_of j) is.entries ∙ sym is.log_is in
-      let len : kept_of j ≡ length log = is.kept_is ∙ ap length (sym is.log_is) in
-      record {
-        in_grammar = is.spelled.in_grammar;
-        order = record { behind = is.entries; first = refl; belong = is.order.belong };
-        device = subst (λ (l : List (List ℕ)). Keeps seen may_leave l (journal_of j)) is.spelled.written keeps;
-        within = le-leb (kept_of j) (length log) (omega (arith, len));
-        events = told ∙ sym (ap (λ (n : ℕ). take n log) len ∙ take-length log);
-        counted = is.issued_is ∙ ap (issued_after 0) (sym (events_head (head_of j) is.entries));
-      }
+  kept_read form texts notes j is keeps = grind (arith, events_head, le-leb, take, take-length)
 
   -- a journal that is begun has its head
   pub kept_begun : (head : HeadParts) (j : Journaled K D V) (texts batch : List (List ℕ)) → texts ≡ [] → IsEntry (entry.Head head) → batch ≡ entry_bytes (entry.Head head) ∷ [] → Keeps seen may_leave (texts ++ batch) (journal_of j)
       → (replica_of j).log ≡ [] → kept_of j ≡ 0 → issued_of j ≡ 0 → head_of j ≡ head → IsKept seen may_leave (entry.Head (head_of j) ∷ []) j
-  kept_begun head j texts batch none is batch_is keeps log kept issued same =
-      let bytes : texts ++ batch ≡ entry_bytes (entry.Head head) ∷ [] = ap (λ (l : List (List ℕ)). l ++ batch) none ∙ batch_is in
-      subst (λ (h : HeadParts). IsKept seen may_leave (entry.Head h ∷ []) j) (sym same)
-      (record {
-        in_grammar = (is, tt);
-        order = record { behind = []; first = ap (λ (h : HeadParts). entry.Head h ∷ []) (sym same); belong = tt };
-        device = subst (λ (l : List (List ℕ)). Keeps seen may_leave l (journal_of j)) bytes keeps;
-        within = le-leb (kept_of j) (length (replica_of j).log) (omega (arith, kept));
-        events = sym (ap (λ (n : ℕ). take n (replica_of j).log) kept);
-        counted = issued;
-      })
+  kept_begun head j texts batch none is batch_is keeps log kept issued same = grind (arith, le-leb, take)
 
   -- ---- what closes
 
@@ -214,8 +159,7 @@ as_going from here = ⊎_elim (λ a. inl a) (λ b. inr (from b)) here
 module _ {D : Type 0} {moment : D → ℕ} {left_since : D → ℕ → List ℕ → Type 0} (may_leave : D → List ℕ → Type 0) (file : List ℕ) (before : D) where
   -- over an opening of the journal alone
   pub moments_begun : (after : D) → LeavesOnly moment left_since before after (λ c. may_leave before c ⊎ StandAlike file c) → LeavesOnly moment left_since before after (λ c. may_leave before c ⊎ (StandAlike file c ⊎ Begins file c))
-  moments_begun after leaves =
-      widened {P = λ c. may_leave before c ⊎ StandAlike file c} (λ c. may_leave before c ⊎ (StandAlike file c ⊎ Begins file c)) leaves (λ c here. as_going (λ (same : StandAlike file c). inl same) here)
+  moments_begun after leaves = grind (arith, widened, as_going)
 
   -- and over the commit of a head
   pub moments_head : (mid after : D) (texts batch : List (List ℕ)) (head : HeadParts) → texts ≡ [] → batch ≡ entry_bytes (entry.Head head) ∷ [] → Stands texts file → LeavesOnly moment left_since before mid (λ c. may_leave before c ⊎ StandAlike file c)

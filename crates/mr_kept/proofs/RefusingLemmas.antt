@@ -1,27 +1,11 @@
 -- what is wrong with bytes that are no entry, or no entry that belongs where it stands
-use Rattle.std.proofs.Common.{◌≡◌, inr, Result, Err, refl, ℕ, ◌+◌, ◌<◌, ◌≤◌, List, ◌∷◌, ◌++◌, length, take, drop, get_or, arith, sym, ap, subst, ◌∙◌, length-drop}
-use Rattle.std.proofs.lemmas.List.{drop_more, length-map, length-take-le, take-append-drop}
-use Rattle.std.specs.Prelude.{◌≢◌, Option, Vec}
-use Rattle.std.specs.declared.alloc.Global.{Global}
-use Rattle.mr_filter.specs.Filter.{ClauseParts}
-use Rattle.mr_forms.specs.Known.{Form}
-use Rattle.mr_replica.specs.Replay.{IsReplayFault, RefusesReplay}
+use Rattle.std.proofs.Common.{◌≡◌, inr, Result, Err, ℕ, ◌+◌, ◌<◌, ◌≤◌, List, ◌∷◌, ◌++◌, length, take, drop, get_or, arith, sym, ap, subst, ◌∙◌, length-drop}
+use Rattle.mr_kept.proofs.Names.{ClauseParts, Entry, Event, Form, Global, HeadParts, IsLonger, IsNoLog, IsNoReplay, IsOfPlace, IsRefused, IsReplayFault}
+use Rattle.mr_kept.proofs.Names.{IsWrong, MAX_EVENTS, NoteParts, OpenFault, Option, Spells, StopsAt, Vec, contents, drop_more, entry_bytes}
+use Rattle.mr_kept.proofs.Names.{events_of, issued_after, length-map, length-take-le, take-append-drop, ◌≢◌}
 use Rattle.mr_replica.specs.declared.replica.replay.ReplayFault.{ReplayFault}
 use Rattle.mr_replica.specs.declared.replica.replay.ReplayFault.TheVariants as replay
-use Rattle.mr_journal.specs.Format.{contents}
-use Rattle.mr_entry.specs.Events.{events_of}
-use Rattle.mr_entry.specs.Grammar.{Spells}
-use Rattle.mr_entry.specs.Head.{HeadParts}
-use Rattle.mr_entry.specs.Note.{NoteParts}
-use Rattle.mr_entry.specs.Spelling.{entry_bytes}
-use Rattle.mr_entry.specs.declared.entry.Entry.{Entry}
-use Rattle.mr_replica.specs.declared.event.Event.{Event}
-use Rattle.mr_replica.specs.declared.replica.TheConstants.{MAX_EVENTS}
-use Rattle.mr_kept.specs.declared.fault.OpenFault.{OpenFault}
 use Rattle.mr_kept.specs.declared.fault.OpenFault.TheVariants as fault
-use Rattle.mr_kept.specs.Entries.{issued_after}
-use Rattle.mr_kept.specs.Opening.{IsOfPlace}
-use Rattle.mr_kept.specs.Refusing.{IsLonger, IsNoLog, IsNoReplay, IsRefused, IsWrong, StopsAt}
 use Rattle.mr_kept.proofs.EntryLemmas.{GatheredSoFar, contents_append}
 use Rattle.mr_kept.proofs.OpenLemmas.{IsHeaded}
 
@@ -37,8 +21,7 @@ is_longer bytes found used spells within other = record {
 }
 
 wrong_as : (place at issued n count m : ℕ) (text : List ℕ) (why : OpenFault) → place ≡ at → issued ≡ n → count ≡ m → IsWrong place issued count text why → IsWrong at n m text why
-wrong_as place at issued n count m text why at_is n_is m_is wrong =
-    subst (λ (k : ℕ). IsWrong at n k text why) m_is (subst (λ (k : ℕ). IsWrong at k count text why) n_is (subst (λ (k : ℕ). IsWrong k issued count text why) at_is wrong))
+wrong_as place at issued n count m text why at_is n_is m_is wrong = grind arith
 
 -- the text that comes next is wrong
 pub stops_at : (entries : List (Vec ℕ Global)) (i place : ℕ) (bytes : Vec ℕ Global) (events : List Event) (issued : ℕ) (notes : List NoteParts) (why : OpenFault) → GatheredSoFar (contents (take i entries)) events issued notes
@@ -71,7 +54,4 @@ module _ {K : Type 0} (form : Form K) where
   -- why the events make no replica
   pub no_replay : {S : Type 0} (head : HeadParts) (filter : List ClauseParts) (events given : List Event) (id limit : ℕ) (why : ReplayFault) → id ≡ head.id → limit ≡ head.event_limit → events ≡ given
       → (◌≡◌ {A = Result S ReplayFault} (Err why) (Err replay.BadLimit) → ¬ ((1 ≤ limit) × (limit ≤ MAX_EVENTS))) → IsReplayFault form id filter limit given why → IsNoReplay form head filter events (fault.Replay why)
-  no_replay head filter events given id limit replay.BadLimit id_is limit_is same bad h = subst (λ (n : ℕ). ¬ ((1 ≤ n) × (n ≤ MAX_EVENTS))) limit_is (bad refl)
-  no_replay head filter events given id limit (replay.Refused place refusal) id_is limit_is same bad h =
-      subst (λ (n : ℕ). RefusesReplay form n filter head.event_limit events place refusal) id_is
-      (subst (λ (n : ℕ). RefusesReplay form id filter n events place refusal) limit_is (subst (λ (l : List Event). RefusesReplay form id filter limit l place refusal) (sym same) h))
+  no_replay head filter events given id limit why id_is limit_is same bad h = grind arith

@@ -1,35 +1,16 @@
 -- why what waits isn't kept
-use Rattle.std.proofs.Common.{zero, suc, ◌≡◌, ◌≢◌, inl, inr, ⊎_elim, ℕ, ◌+◌, ◌<◌, ◌≤◌, ◌^◌, List, [], ◌∷◌, ◌++◌, length, take, drop, get_or, Result, Ok, Err, refl, sym, ap, subst, ◌∙◌, append_assoc, add-one, arith}
-use Rattle.std.specs.Prelude.{IfErr, IsErrAnd, IsOk, Vec, false, map, replicate}
-use Rattle.std.specs.List.{AllByRecursion}
-use Rattle.std.specs.declared.alloc.Global.{Global}
-use Rattle.std.proofs.Math.Seq.{drop-cons}
-use Rattle.std.proofs.lemmas.Bool.{cases_lt, false≢true}
-use Rattle.std.proofs.lemmas.Bool.Decides.{eqb_tells}
-use Rattle.std.proofs.lemmas.List.{replicate_more, take-append-drop}
-use Rattle.mr_journal.specs.Fault.{IsOfBatch}
-use Rattle.mr_journal.specs.Format.{AreEntries, Fits, body, contents}
-use Rattle.mr_journal.specs.Journal.{end_of, has_failed}
-use Rattle.mr_journal.specs.declared.fault.JournalFault.{JournalFault}
+use Rattle.std.proofs.Common.{zero, suc, ◌≡◌, ◌≢◌, ⊎_elim, ℕ, ◌+◌, ◌<◌, ◌≤◌, ◌^◌, List, [], ◌∷◌, ◌++◌, length, take, drop, get_or, Result, Ok, Err, refl, sym, ap, subst, ◌∙◌, append_assoc, add-one, arith}
+use Rattle.mr_kept.proofs.Names.{AllByRecursion, AreEntries, AreSoFar, AreSpelled, Entry, EntryFault, Event, Fits, Global, HasNoEntry, IfErr, IsEntry}
+use Rattle.mr_kept.proofs.Names.{IsErrAnd, IsOfBatch, IsOfEntries, IsOfEvent, IsOk, IsUncommitted, JournalFault, Journaled, KeptFault, Next, NoteParts, Vec}
+use Rattle.mr_kept.proofs.Names.{batch_entries, body, cases_lt, contents, counted, drop-cons, end_of, entries_of, entries_waiting, entry_bytes, eqb_tells}
+use Rattle.mr_kept.proofs.Names.{false, false≢true, has_failed, journal_of, map, replicate, replicate_more, run_of, take-append-drop, with_next}
 use Rattle.mr_journal.specs.declared.fault.JournalFault.TheVariants as journal
-use Rattle.mr_replica.specs.declared.event.Event.{Event}
-use Rattle.mr_replica.specs.declared.event.Event.TheVariants.{Next}
 use Rattle.mr_entry.specs.Encoding.{Encodes}
-use Rattle.mr_entry.specs.Grammar.{IsEntry}
-use Rattle.mr_entry.specs.Note.{NoteParts}
-use Rattle.mr_entry.specs.Spelling.{entry_bytes}
-use Rattle.mr_entry.specs.declared.entry.Entry.{Entry}
 use Rattle.mr_entry.specs.declared.entry.Entry.TheVariants as entry
-use Rattle.mr_entry.specs.declared.fault.EntryFault.{EntryFault}
 use Rattle.mr_entry.specs.declared.fault.EntryFault.TheVariants as spelling
-use Rattle.mr_kept.specs.declared.fault.KeptFault.{KeptFault}
 use Rattle.mr_kept.specs.declared.fault.KeptFault.TheVariants as kept
-use Rattle.mr_kept.specs.declared.journaled.Journaled.{Journaled}
-use Rattle.mr_kept.specs.Commit.{HasRoom, IsUncommitted}
-use Rattle.mr_kept.specs.Entries.{AreSpelled, batch_entries, counted, entries_of, with_next}
-use Rattle.mr_kept.specs.inner.Entries.{AreSoFar, HasNoEntry, IsOfEntries, IsOfEvent, run_of}
+use Rattle.mr_kept.specs.Commit.{HasRoom}
 use Rattle.mr_kept.specs.Fault.{kept_fault_of, kept_fault_of_entry}
-use Rattle.mr_kept.specs.Kept.{entries_waiting, journal_of}
 use Rattle.mr_kept.proofs.EntryLemmas.{all_split}
 use Rattle.mr_kept.proofs.RunLemmas.{an_entry, begins_none, one_run, run_ends}
 
@@ -37,8 +18,7 @@ use Rattle.mr_kept.proofs.RunLemmas.{an_entry, begins_none, one_run, run_ends}
 
 -- the error is this one
 pub err_by : {T E : Type 0} (P : E → Type 0) (r : Result T E) (x : E) → IsErrAnd r (λ y. y ≡ x) → P x → IfErr r P
-err_by P (Ok v) x is p = absurd is
-err_by P (Err y) x is p = subst P (sym is) p
+err_by P r x is p = grind arith
 
 ok_no_err : {T E : Type 0} (r : Result T E) (v : T) (x : E) → r ≡ Ok v → r ≡ Err x → ⊥
 ok_no_err r v x is other = cc
@@ -53,29 +33,17 @@ pub record BeginsRun (s k : ℕ) (list : List Entry) : Type 0 where
   pub first : list ≡ entry.Nexts s count ∷ rest
 
 next_first : (s : ℕ) (xs : List Entry) → BeginsRun s 0 (with_next s xs)
-next_first s [] = record { count = 1; rest = []; more = omega arith; first = refl }
-next_first s (entry.Nexts other k ∷ xs) = elim (eqb_tells other s) [
-  | inl same ↦ rw same.0 (record { count = k + 1; rest = xs; more = omega arith; first = refl })
-  | inr differs ↦ rw differs.0 (record { count = 1; rest = entry.Nexts other k ∷ xs; more = omega arith; first = refl })
-]
-next_first s (x ∷ xs) = record { count = 1; rest = x ∷ xs; more = omega arith; first = refl }
+next_first s xs = grind (arith, eqb_tells)
 
 run_longer : (s k : ℕ) (list : List Entry) → BeginsRun s k list → BeginsRun s (suc k) (with_next s list)
-run_longer s k list h = record {
-  count = h.count + 1;
-  rest = h.rest;
-  more = omega (arith, h.more);
-  first = ap (with_next s) h.first ∙ one_run s h.count h.rest;
-}
+run_longer s k list h = grind (arith, one_run)
 
 run_first : (n s k : ℕ) (xs : List Event) → BeginsRun s k (entries_of n (replicate (suc k) (Next s) ++ xs))
 run_first n s zero xs = next_first s (entries_of n xs)
 run_first n s (suc k) xs = run_longer s k (entries_of n (replicate (suc k) (Next s) ++ xs)) (run_first n s k xs)
 
 no_long_run : (s k : ℕ) (list : List Entry) → 2 ^ 32 ≤ k + 1 → BeginsRun s k list → AllByRecursion IsEntry list → ⊥
-no_long_run s k list many h all =
-    let is : AllByRecursion IsEntry (entry.Nexts s h.count ∷ h.rest) = subst (λ (l : List Entry). AllByRecursion IsEntry l) h.first all in
-    omega (arith, many, h.more, is.0.1)
+no_long_run s k list many h all = grind arith
 
 -- one Next more than the run may have
 run_over : (n : ℕ) (events : List Event) (texts : List (List ℕ)) (now s k : ℕ) (later : List Event) → AreSoFar n events texts now s k → 2 ^ 32 ≤ k + 1 → AllByRecursion IsEntry (entries_of n (events ++ Next s ∷ later)) → ⊥
@@ -119,8 +87,7 @@ event_of_memory now s k e fault is = subst (IsOfEvent now s k e) (sym is) tt
 -- ---- what an event's fault comes of
 
 none_over : (now s k count : ℕ) (e : Event) → ((u : ℕ) → e ≢ Next u) → count ≡ counted now e → (IsEntry (entry.Event count e) → ⊥) → HasNoEntry now s k e
-none_over now s k count (Next u) other same none = absurd (other u refl)
-none_over now s k count e other same none = λ is. none (subst (λ (n : ℕ). IsEntry (entry.Event n e)) (sym same) is)
+none_over now s k count e other same none = grind arith
 
 -- its count would be too much
 pub count_over : (now s k : ℕ) (e : Event) → ((u : ℕ) → e ≢ Next u) → 2 ^ 32 ≤ counted now e → HasNoEntry now s k e
@@ -128,14 +95,11 @@ count_over now s k e other many = none_over now s k (counted now e) e other refl
 
 -- it has too many bytes
 pub event_fault : (now s k count : ℕ) (e : Event) (fault : EntryFault) → ((u : ℕ) → e ≢ Next u) → count ≡ counted now e → Encodes (entry.Event count e) (Err fault) → IsOfEvent now s k e (kept_fault_of_entry fault)
-event_fault now s k count e spelling.OutOfMemory other same h = tt
-event_fault now s k count e spelling.TooLong other same h = none_over now s k count e other same (λ is. omega (arith, h, is.1.few))
-event_fault now s k count e fault other same h = absurd h
+event_fault now s k count e fault other same h = grind (arith, none_over)
 
 -- the entry of a run is never too long
 pub run_fault : (s k : ℕ) (fault : EntryFault) → Encodes (entry.Nexts s k) (Err fault) → kept_fault_of_entry fault ≡ kept.OutOfMemory
-run_fault s k spelling.OutOfMemory h = refl
-run_fault s k fault h = absurd h
+run_fault s k fault h = grind arith
 
 -- ---- notes
 
@@ -180,8 +144,7 @@ kept_fits : (place : ℕ) (texts : List (List ℕ)) (r : Result (Unit {0}) Journ
 kept_fits place texts r v is large = fits_stable place texts (λ none. ok_no_err r v journal.TooLarge is (large none))
 
 large_fault : (place : ℕ) (given : List (Vec ℕ Global)) (fault : JournalFault) (is_ok : given ≡ [] → IsOk {T = Unit {0}} {E = JournalFault} (Err fault)) (large : given ≢ [] → fault ≡ journal.TooLarge → Fits place (contents given) → ⊥) → fault ≡ journal.TooLarge → Fits place (contents given) → ⊥
-large_fault place [] fault is_ok large is fits = false≢true (is_ok refl)
-large_fault place (x ∷ xs) fault is_ok large is fits = large (λ none. cc) is fits
+large_fault place given fault is_ok large is fits = grind (arith, false≢true)
 
 -- never since the device failed
 pub never_failed : (entries : List Entry) (fault : KeptFault) → IsOfEntries entries fault → fault ≡ kept.Failed → ⊥
@@ -189,8 +152,7 @@ never_failed entries fault h is = subst (λ (f : KeptFault). IsOfEntries entries
 
 -- the device failed, as the journal tells
 pub failed_is : (fault : JournalFault) → IsOfBatch fault → kept_fault_of fault ≡ kept.Failed → fault ≡ journal.Failed
-failed_is journal.Failed of is = refl
-failed_is fault of is = absurd (cc)
+failed_is fault of is = grind arith
 
 module _ {K D V : Type 0} where
   pub has_room : (old : Journaled K D V) (given : List (Vec ℕ Global)) (r : Result (Unit {0}) JournalFault) (v : Unit {0}) → r ≡ Ok v → AreSpelled (entries_waiting old) (contents given)
@@ -203,11 +165,7 @@ module _ {K D V : Type 0} where
 
   no_room : (old : Journaled K D V) (texts : List (List ℕ)) (fault : JournalFault) → has_failed (journal_of old) ≡ false → AreSpelled (entries_waiting old) texts → IsOfBatch fault
       → (fault ≡ journal.TooLarge → Fits (end_of (journal_of old)) texts → ⊥) → IsUncommitted old (kept_fault_of fault)
-  no_room old texts journal.OutOfMemory sound spelled of large = sound
-  no_room old texts journal.Failed sound spelled of large = tt
-  no_room old texts journal.TooLarge sound spelled of large =
-      (sound, λ room. large refl (subst (λ (l : List (List ℕ)). Fits (end_of (journal_of old)) l) (sym spelled.written) room.fits))
-  no_room old texts fault sound spelled of large = absurd of
+  no_room old texts fault sound spelled of large = grind arith
 
   -- why the journal didn't keep them
   pub journal_fault : (old : Journaled K D V) (given : List (Vec ℕ Global)) (fault : JournalFault) → has_failed (journal_of old) ≡ false → AreSpelled (entries_waiting old) (contents given) → IsOfBatch fault
@@ -216,6 +174,4 @@ module _ {K D V : Type 0} where
 
   -- or why they have no entries
   pub batch_fault : (old : Journaled K D V) (entries : List Entry) (fault : KeptFault) → has_failed (journal_of old) ≡ false → entries ≡ entries_waiting old → IsOfEntries entries fault → IsUncommitted old fault
-  batch_fault old entries kept.TooLarge sound same h = (sound, λ room. h (subst (λ (l : List Entry). AllByRecursion IsEntry l) (sym same) room.in_grammar))
-  batch_fault old entries kept.OutOfMemory sound same h = sound
-  batch_fault old entries fault sound same h = absurd h
+  batch_fault old entries fault sound same h = grind arith

@@ -1,17 +1,9 @@
 -- the entries of events: Nexts of one stream in a row are one run
-use Rattle.std.proofs.Common.{zero, suc, ◌≡◌, ◌≢◌, inl, inr, ℕ, ◌+◌, ◌<◌, ◌≤◌, List, [], ◌∷◌, ◌++◌, length, take, take_all, get_or, refl, sym, ap, subst, ◌∙◌, append_assoc, append-nil, add-one}
-use Rattle.std.specs.Prelude.{map, replicate}
-use Rattle.std.proofs.lemmas.Bool.Decides.{eqb_tells}
-use Rattle.std.proofs.lemmas.List.{replicate_more, take_more}
-use Rattle.mr_replica.specs.declared.event.Event.{Event}
-use Rattle.mr_replica.specs.declared.event.Event.TheVariants.{Next}
-use Rattle.mr_entry.specs.Events.{events_of}
-use Rattle.mr_entry.specs.Grammar.{Spells}
-use Rattle.mr_entry.specs.Note.{NoteParts}
-use Rattle.mr_entry.specs.declared.entry.Entry.{Entry}
+use Rattle.std.proofs.Common.{arith}
+use Rattle.std.proofs.Common.{zero, suc, ◌≡◌, ◌≢◌, ℕ, ◌+◌, ◌<◌, ◌≤◌, List, [], ◌∷◌, ◌++◌, length, take, take_all, get_or, refl, sym, ap, subst, ◌∙◌, append_assoc, append-nil, add-one}
+use Rattle.mr_kept.proofs.Names.{AllBelong, AreSoFar, AreSpelled, Entry, Event, Next, NoteParts, Spells, batch_entries, counted, entries_of, eqb_tells}
+use Rattle.mr_kept.proofs.Names.{events_of, issued_after, map, notes_of, replicate, replicate_more, run_of, take_more, with_event, with_next}
 use Rattle.mr_entry.specs.declared.entry.Entry.TheVariants as entry
-use Rattle.mr_kept.specs.Entries.{AllBelong, AreSpelled, batch_entries, counted, entries_of, issued_after, notes_of, with_event, with_next}
-use Rattle.mr_kept.specs.inner.Entries.{AreSoFar, run_of}
 use Rattle.mr_kept.proofs.EntryLemmas.{all_belong, events_append, events_cons, issued_append, notes_append, notes_are, notes_belong, notes_cons, notes_tell, run_issues, spelled_append, spelled_one}
 
 -- ---- what they tell
@@ -20,18 +12,10 @@ run_more : (s n : ℕ) → replicate (n + 1) (Next s) ≡ Next s ∷ replicate n
 run_more s n = ap (λ (m : ℕ). replicate m (Next s)) (add-one n)
 
 next_told : (s : ℕ) (xs : List Entry) → events_of (with_next s xs) ≡ Next s ∷ events_of xs
-next_told s [] = refl
-next_told s (entry.Nexts other n ∷ xs) = elim (eqb_tells other s) [
-  | inl same ↦ rw same.0
-      (events_cons (entry.Nexts s (n + 1)) xs ∙ ap (λ (l : List Event). l ++ events_of xs) (run_more s n) ∙ ap (λ (m : ℕ). Next s ∷ (replicate n (Next m) ++ events_of xs)) (sym same.1)
-      ∙ ap (λ (l : List Event). Next s ∷ l) (sym (events_cons (entry.Nexts other n) xs)))
-  | inr differs ↦ rw differs.0 (events_cons (entry.Nexts s 1) (entry.Nexts other n ∷ xs))
-]
-next_told s (x ∷ xs) = events_cons (entry.Nexts s 1) (x ∷ xs)
+next_told s xs = grind (arith, eqb_tells, events_cons, run_more)
 
 event_told : (n : ℕ) (e : Event) (xs : List Entry) → events_of (with_event n e xs) ≡ e ∷ events_of xs
-event_told n (Next s) xs = next_told s xs
-event_told n e xs = events_cons (entry.Event (counted n e) e) xs
+event_told n e xs = grind (arith, next_told, events_cons)
 
 -- the entries of events tell these
 events_are : (n : ℕ) (xs : List Event) → events_of (entries_of n xs) ≡ xs
@@ -41,16 +25,10 @@ events_are n (x ∷ xs) = event_told n x (entries_of (counted n x) xs) ∙ ap (�
 -- ---- their counts
 
 next_belongs : (n s : ℕ) (xs : List Entry) → AllBelong n xs → AllBelong n (with_next s xs)
-next_belongs n s [] h = (tt, tt)
-next_belongs n s (entry.Nexts other k ∷ xs) h = elim (eqb_tells other s) [
-  | inl same ↦ rw same.0 (tt, subst (λ (m : ℕ). AllBelong m xs) (run_issues n other k ∙ sym (run_issues n s (k + 1))) h.1)
-  | inr differs ↦ rw differs.0 (tt, h)
-]
-next_belongs n s (x ∷ xs) h = (tt, h)
+next_belongs n s xs h = grind (arith, eqb_tells, run_issues)
 
 event_belongs : (n : ℕ) (e : Event) (xs : List Entry) → AllBelong (counted n e) xs → AllBelong n (with_event n e xs)
-event_belongs n (Next s) xs h = next_belongs n s xs h
-event_belongs n e xs h = (refl, h)
+event_belongs n e xs h = grind (arith, next_belongs)
 
 -- the entries of events belong where they stand
 events_belong : (n : ℕ) (events : List Event) → AllBelong n (entries_of n events)
@@ -59,16 +37,10 @@ events_belong n (event ∷ events) = event_belongs n event (entries_of (counted 
 
 -- they tell no note
 next_notes : (s : ℕ) (xs : List Entry) → notes_of (with_next s xs) ≡ notes_of xs
-next_notes s [] = refl
-next_notes s (entry.Nexts other n ∷ xs) = elim (eqb_tells other s) [
-  | inl same ↦ rw same.0 (notes_cons (entry.Nexts s (n + 1)) xs ∙ sym (notes_cons (entry.Nexts other n) xs))
-  | inr differs ↦ rw differs.0 (notes_cons (entry.Nexts s 1) (entry.Nexts other n ∷ xs))
-]
-next_notes s (x ∷ xs) = notes_cons (entry.Nexts s 1) (x ∷ xs)
+next_notes s xs = grind (arith, eqb_tells, notes_cons)
 
 event_notes : (n : ℕ) (e : Event) (xs : List Entry) → notes_of (with_event n e xs) ≡ notes_of xs
-event_notes n (Next s) xs = next_notes s xs
-event_notes n e xs = notes_cons (entry.Event (counted n e) e) xs
+event_notes n e xs = grind (arith, next_notes, notes_cons)
 
 pub no_notes : (n : ℕ) (events : List Event) → notes_of (entries_of n events) ≡ []
 no_notes n [] = refl
@@ -77,8 +49,7 @@ no_notes n (event ∷ events) = event_notes n event (entries_of (counted n event
 -- ---- events and notes
 
 pub batch_tells : (n : ℕ) (events : List Event) (ns : List NoteParts) → events_of (batch_entries n events ns) ≡ events
-batch_tells n events ns =
-    events_append (entries_of n events) (map entry.Note ns) ∙ ap (λ (l : List Event). events_of (entries_of n events) ++ l) (notes_tell ns) ∙ append-nil (events_of (entries_of n events)) ∙ events_are n events
+batch_tells n events ns = grind (arith, events_append, notes_tell, append-nil, events_are)
 
 pub batch_notes : (n : ℕ) (events : List Event) (ns : List NoteParts) → notes_of (batch_entries n events ns) ≡ ns
 batch_notes n events ns = notes_append (entries_of n events) (map entry.Note ns) ∙ ap (λ (l : List NoteParts). l ++ notes_of (map entry.Note ns)) (no_notes n events) ∙ notes_are ns
@@ -93,24 +64,13 @@ abbrev pub BeginsNoRun : ℕ → List Entry → Type 0
 BeginsNoRun s xs = with_next s xs ≡ entry.Nexts s 1 ∷ xs
 
 other_run : (s t k : ℕ) (xs : List Entry) → t ≢ s → BeginsNoRun s (entry.Nexts t k ∷ xs)
-other_run s t k xs other = elim (eqb_tells t s) [
-  | inl same ↦ absurd (other same.1)
-  | inr differs ↦ rw differs.0 refl
-]
+other_run s t k xs other = grind (arith, eqb_tells)
 
 other_next : (s t : ℕ) (xs : List Entry) → t ≢ s → BeginsNoRun s (with_next t xs)
-other_next s t [] other = other_run s t 1 [] other
-other_next s t (entry.Nexts o k ∷ xs) other = elim (eqb_tells o t) [
-  | inl same ↦ rw same.0 (other_run s t (k + 1) xs other)
-  | inr differs ↦ rw differs.0 (other_run s t 1 (entry.Nexts o k ∷ xs) other)
-]
-other_next s t (x ∷ xs) other = other_run s t 1 (x ∷ xs) other
+other_next s t xs other = grind (arith, other_run, eqb_tells)
 
 pub one_run : (s k : ℕ) (xs : List Entry) → with_next s (entry.Nexts s k ∷ xs) ≡ entry.Nexts s (k + 1) ∷ xs
-one_run s k xs = elim (eqb_tells s s) [
-  | inl same ↦ rw same.0 refl
-  | inr differs ↦ absurd (differs.1 refl)
-]
+one_run s k xs = grind (arith, eqb_tells)
 
 pub run_ends : (n s k : ℕ) (xs : List Event) → BeginsNoRun s (entries_of n xs) → entries_of n (replicate k (Next s) ++ xs) ≡ run_of s k ++ entries_of n xs
 run_ends n s zero xs none = refl
@@ -123,14 +83,11 @@ pub none_put : (s k : ℕ) (texts : List (List ℕ)) → k ≡ 0 → (list : Lis
 none_put s k texts none list spelled = subst (λ (l : List Entry). AreSpelled l texts) (sym (ap (λ (m : ℕ). list ++ run_of s m) none ∙ append-nil list)) spelled
 
 some_run : (s k : ℕ) → k ≢ 0 → run_of s k ≡ entry.Nexts s k ∷ []
-some_run s zero some = absurd (some refl)
-some_run s (suc k) some = refl
+some_run s k some = grind arith
 
 -- the entry of one of some
 pub run_put : (s k : ℕ) (texts after : List (List ℕ)) (text : List ℕ) → k ≢ 0 → Spells (entry.Nexts s k) text → after ≡ texts ++ text ∷ [] → (list : List Entry) → AreSpelled list texts → AreSpelled (list ++ run_of s k) after
-run_put s k texts after text some spells after_is list spelled =
-    subst (λ (l : List (List ℕ)). AreSpelled (list ++ run_of s k) l) (sym after_is)
-    (subst (λ (l : List Entry). AreSpelled (list ++ l) (texts ++ text ∷ [])) (sym (some_run s k some)) (spelled_append list (entry.Nexts s k ∷ []) texts (text ∷ []) spelled (spelled_one (entry.Nexts s k) text spells.in_grammar spells.written)))
+run_put s k texts after text some spells after_is list spelled = grind (arith, some_run, spelled_append, spelled_one)
 
 -- ---- one event more
 
@@ -162,12 +119,10 @@ run_changes n events texts ended now after s t k other so_far same end =
     })
 
 pub begins_none : (n s : ℕ) (e : Event) (later : List Event) → ((t : ℕ) → e ≢ Next t) → BeginsNoRun s (entries_of n (e ∷ later))
-begins_none n s (Next t) later other = absurd (other t refl)
-begins_none n s e later other = refl
+begins_none n s e later other = grind arith
 
 pub an_entry : (n : ℕ) (e : Event) (later : List Event) → ((t : ℕ) → e ≢ Next t) → entries_of n (e ∷ later) ≡ entry.Event (counted n e) e ∷ entries_of (counted n e) later
-an_entry n (Next t) later other = absurd (other t refl)
-an_entry n e later other = refl
+an_entry n e later other = grind arith
 
 -- another event: the run is ended, and the event is an entry
 pub event_more : (n : ℕ) (events : List Event) (texts ended after : List (List ℕ)) (was now s k : ℕ) (e : Event) (count : ℕ) (text : List ℕ) (t m : ℕ) → ((u : ℕ) → e ≢ Next u) → AreSoFar n events texts was s k
@@ -192,8 +147,7 @@ event_more n events texts ended after was now s k e count text t m other so_far 
 
 pub next_so_far : (n : ℕ) (events : List Event) (i : ℕ) (e : Event) (texts after : List (List ℕ)) (now next s t k m : ℕ) → i < length events → e ≡ get_or events i e → AreSoFar n (take i events) texts now s k
     → ((n : ℕ) (l : List Event) → AreSoFar n l texts now s k → AreSoFar n (l ++ e ∷ []) after next t m) → AreSoFar n (take (i + 1) events) after next t m
-next_so_far n events i e texts after now next s t k m within is so_far step =
-    subst (λ (l : List Event). AreSoFar n l after next t m) (sym (take_more events i e within ∙ ap (λ (y : Event). take i events ++ y ∷ []) (sym is))) (step n (take i events) so_far)
+next_so_far n events i e texts after now next s t k m within is so_far step = grind (arith, take_more, take)
 
 pub whole_so_far : (n : ℕ) (events : List Event) (i : ℕ) (texts ended : List (List ℕ)) (now s k : ℕ) → length events ≤ i → AreSoFar n (take i events) texts now s k
     → ((list : List Entry) → AreSpelled list texts → AreSpelled (list ++ run_of s k) ended) → AreSpelled (entries_of n events) ended

@@ -1,26 +1,11 @@
 -- what is given of a stream at a time
 use Rattle.std.proofs.Common.{◌≡◌, ◌≢◌, ◌⊎◌, ⊎_elim, ℕ, ◌+◌, ◌-◌, ◌<◌, ◌≤◌, Bool, true, false, List, [], ◌∷◌, ◌++◌, length, take, append_assoc, Result, Ok, Err, refl, sym, ap, subst, ◌∙◌, arith}
-use Rattle.std.specs.Prelude.{IsErrAnd, map, sum_by, ◌||◌}
-use Rattle.std.proofs.lemmas.Result.{err_from_is_err_and}
-use Rattle.std.specs.List.{list_any}
-use Rattle.std.proofs.lemmas.Bool.{cases_lt}
-use Rattle.std.proofs.Math.Seq.{take-length}
-use Rattle.std.proofs.lemmas.List.{append-nil, length-append, map-append, take-append-le}
+use Rattle.mr_kept.proofs.Names.{Form, Gave, IsErrAnd, Journal, Journaled, KeptFault, Next, SameJournal, Sent, State, Steps, append-nil, cases_lt}
+use Rattle.mr_kept.proofs.Names.{err_from_is_err_and, has_failed, journal_of, leaving, length-append, list_any, map, map-append, replica_of, sum_by}
+use Rattle.mr_kept.proofs.Names.{take-append-le, take-length}
 use Rattle.std.proofs.lemmas.List.Folds.{list_any-append}
 use Rattle.std.proofs.lemmas.List.Sums.{sum_by-append, sum_by-cons}
-use Rattle.mr_forms.specs.Known.{Form}
-use Rattle.mr_wire.specs.Frames.{Sent}
-use Rattle.mr_journal.specs.Journal.{has_failed}
-use Rattle.mr_journal.specs.declared.journal.Journal.{Journal}
-use Rattle.mr_replica.specs.State.{State}
-use Rattle.mr_replica.specs.Step.{Steps}
-use Rattle.mr_replica.specs.declared.event.Event.TheVariants.{Next}
-use Rattle.mr_replica.specs.declared.event.Reply.{Reply}
-use Rattle.mr_replica.specs.declared.event.Reply.TheVariants.{Gave}
-use Rattle.mr_kept.specs.declared.fault.KeptFault.{KeptFault}
-use Rattle.mr_kept.specs.declared.journaled.Journaled.{Journaled}
 use Rattle.mr_kept.specs.Answered.{Answered}
-use Rattle.mr_kept.specs.Kept.{SameJournal, journal_of, leaving, replica_of}
 use Rattle.mr_kept.specs.Telling.{Gives, Tells, WantsMore, is_end, size_of}
 
 -- ---- one record more
@@ -28,36 +13,19 @@ use Rattle.mr_kept.specs.Telling.{Gives, Tells, WantsMore, is_end, size_of}
 -- each beginning of the records with one more wants more
 wanted_more : (records bytes : ℕ) (given : List Sent) (sent : Sent) (count : ℕ) → length given ≡ count → ((n : ℕ) → n < count → WantsMore records bytes (take n given)) → WantsMore records bytes given
     → (n : ℕ) → n < count + 1 → WantsMore records bytes (take n (given ++ sent ∷ []))
-wanted_more records bytes given sent count is before now n less =
-    let within : n ≤ length given = omega (arith, less, is) in
-    let same : take n (given ++ sent ∷ []) ≡ take n given = take-append-le n given (sent ∷ []) within in
-    subst (λ (l : List Sent). WantsMore records bytes l) (sym same)
-    (⊎_elim (λ (few : n < count). before n few)
-    (λ (high : count ≤ n). let all : n ≡ length given = omega (arith, high, less, is) in subst (λ (l : List Sent). WantsMore records bytes l) (sym (ap (λ (m : ℕ). take m given) all ∙ take-length given)) now)
-    (cases_lt n count))
+wanted_more records bytes given sent count is before now n less = grind (arith, take, take-append-le, ⊎_elim, take-length, cases_lt)
 
 left_more : (given : List Sent) (sent : Sent) (bytes left size : ℕ) → left ≡ bytes - sum_by size_of given → size ≡ size_of sent → left - size ≡ bytes - sum_by size_of (given ++ sent ∷ [])
-left_more given sent bytes left size is same =
-    let all : sum_by size_of (given ++ sent ∷ []) ≡ sum_by size_of given + sum_by size_of (sent ∷ []) = sum_by-append size_of given (sent ∷ []) in
-    let one : sum_by size_of (sent ∷ []) ≡ size_of sent + sum_by size_of [] = sum_by-cons size_of sent [] in
-    let none : sum_by size_of [] ≡ 0 = refl in
-    omega (arith, is, same, all, one, none)
+left_more given sent bytes left size is same = grind (arith, sum_by-append, sum_by-cons)
 
 any_more : (given : List Sent) (sent : Sent) (last : Bool) → list_any is_end given ≡ false → is_end sent ≡ last → list_any is_end (given ++ sent ∷ []) ≡ last
-any_more given sent true none is = list_any-append is_end given (sent ∷ []) ∙ ap (λ (b : Bool). b || list_any is_end (sent ∷ [])) none ∙ ap (λ (b : Bool). b || false) is
-any_more given sent false none is = list_any-append is_end given (sent ∷ []) ∙ ap (λ (b : Bool). b || list_any is_end (sent ∷ [])) none ∙ ap (λ (b : Bool). b || false) is
+any_more given sent last none is = grind (arith, list_any-append)
 
 -- ---- the journal stays
 
 module _ {K D V : Type 0} where
   same_then : (a b c : Journaled K D V) → SameJournal a b → SameJournal b c → SameJournal a c
-  same_then a b c first second = record {
-    journal = second.journal ∙ first.journal;
-    head = second.head ∙ first.head;
-    kept = second.kept ∙ first.kept;
-    issued = second.issued ∙ first.issued;
-    notes = second.notes ∙ first.notes;
-  }
+  same_then a b c first second = grind arith
 
 module _ {K : Type 0} (form : Form K) where
   -- one record more
@@ -80,22 +48,11 @@ module _ {K : Type 0} (form : Form K) where
 
   module _ {D V : Type 0} (stream records bytes : ℕ) where
     pub none_given : (old : Journaled K D V) → GivenSoFar stream records bytes old old 0 bytes
-    none_given old = record {
-      given = [];
-      gives = refl;
-      length_is = refl;
-      left_is = omega arith;
-      no_end = refl;
-      wanted = λ n less. absurd (omega (arith, less));
-      leaving_is = sym (append-nil (leaving old));
-      sound = λ some. absurd (some refl);
-      same = record { journal = refl; head = refl; kept = refl; issued = refl; notes = refl };
-    }
+    none_given old = grind (arith, append-nil)
 
     leaving_more : (old mid new : Journaled K D V) (given : List Sent) (sent : Sent) → leaving mid ≡ leaving old ++ map Gave given → leaving new ≡ leaving mid ++ Gave sent ∷ []
         → leaving new ≡ leaving old ++ map Gave (given ++ sent ∷ [])
-    leaving_more old mid new given sent before now =
-        now ∙ ap (λ (l : List Reply). l ++ Gave sent ∷ []) before ∙ append_assoc (leaving old) (map Gave given) (Gave sent ∷ []) ∙ ap (λ (l : List Reply). leaving old ++ l) (sym (map-append Gave given (sent ∷ [])))
+    leaving_more old mid new given sent before now = grind (arith, append_assoc, map-append)
 
     module _ {old mid : Journaled K D V} {count left : ℕ} (so : GivenSoFar stream records bytes old mid count left) (few : count < records) (some : left ≡ 0 → ⊥) where
       wants_more : WantsMore records bytes so.given

@@ -1,47 +1,23 @@
 -- a journal that a replica left is not refused, and gives a replica that is alike
 use Rattle.std.proofs.Common.{◌≡◌, ◌⊎◌, inl, inr, ⊎_elim, ℕ, ◌+◌, ◌≤◌, Bool, List, [], ◌∷◌, ◌++◌, length, Option, Result, Ok, Err, refl, sym, ap, subst, ◌∙◌, arith, append-nil}
-use Rattle.std.specs.Prelude.{map}
-use Rattle.std.specs.List.{AllByRecursion}
-use Rattle.std.proofs.lemmas.List.{length-append, append_cancel_left}
-use Rattle.mr_filter.specs.Filter.{ClauseParts, IsFilter}
-use Rattle.mr_filter.specs.Grammar.{Reads}
+use Rattle.mr_kept.proofs.Names.{AdmitsAll, AllBelong, AllByRecursion, Belongs, ClauseParts, ComesBack, Entry, EntryFault, Event, Form, HasLog, HasLogOf}
+use Rattle.mr_kept.proofs.Names.{HeadParts, IsBehindHead, IsEntry, IsFilter, IsItsLog, IsLonger, IsNoFilter, IsNoHead, IsNoReplay, IsOf, IsOfMachine}
+use Rattle.mr_kept.proofs.Names.{IsOfOther, IsOfPlace, IsOpenFault, IsOutOfOrder, IsRead, IsRefused, IsReplayed, IsUnread, IsWrong, Journal, Journaled}
+use Rattle.mr_kept.proofs.Names.{LeavesOnly, MAX_EVENTS, NoteParts, OpenFault, Reads, Reopens, Replays, Spells, StandAlike, Stands, State, StopsAt}
+use Rattle.mr_kept.proofs.Names.{append_cancel_left, device_of, entry_bytes, events_of, events_of_entry, head_of, issued_after, issued_of, joined, journal_of}
+use Rattle.mr_kept.proofs.Names.{kept_of, length-append, map, notes_of, replica_of, widened}
 use Rattle.mr_filter.proofs.UniqueLemmas.{Reads-fault, Reads-unique}
 use Rattle.mr_forms.specs.ByMeaning.{IsByMeaning}
-use Rattle.mr_forms.specs.Known.{Form}
-use Rattle.mr_journal.specs.Device.{LeavesOnly}
-use Rattle.mr_journal.specs.Format.{StandAlike, Stands}
-use Rattle.mr_journal.specs.Journal.{device_of}
-use Rattle.mr_journal.specs.declared.journal.Journal.{Journal}
-use Rattle.mr_journal.proofs.Moments.{joined, widened}
 use Rattle.mr_journal.proofs.Unique.{not_refused, one_list}
 use Rattle.mr_entry.specs.Decoding.{decoded}
-use Rattle.mr_entry.specs.Events.{events_of, events_of_entry}
-use Rattle.mr_entry.specs.Grammar.{IsEntry, Spells}
-use Rattle.mr_entry.specs.Head.{HeadParts}
-use Rattle.mr_entry.specs.Note.{NoteParts}
-use Rattle.mr_entry.specs.Spelling.{entry_bytes}
-use Rattle.mr_entry.specs.declared.entry.Entry.{Entry}
 use Rattle.mr_entry.specs.declared.entry.Entry.TheVariants as entry
-use Rattle.mr_entry.specs.declared.fault.EntryFault.{EntryFault}
 use Rattle.mr_entry.proofs.CodecLaws.{begins_no_other, is_found}
 use Rattle.mr_entry.proofs.EntryLaws.{entry_codec}
-use Rattle.mr_replica.specs.Replay.{AdmitsAll, IsItsLog, Replays}
-use Rattle.mr_replica.specs.State.{State}
-use Rattle.mr_replica.specs.declared.event.Event.{Event}
-use Rattle.mr_replica.specs.declared.replica.TheConstants.{MAX_EVENTS}
 use Rattle.mr_replica.specs.declared.replica.replay.ReplayFault.TheVariants as replay
 use Rattle.mr_replica.proofs.Alike.{alike_fresh, alike_replays, alike_stop}
-use Rattle.mr_kept.specs.declared.fault.OpenFault.{OpenFault}
 use Rattle.mr_kept.specs.declared.fault.OpenFault.TheVariants as fault
-use Rattle.mr_kept.specs.declared.journaled.Journaled.{Journaled}
-use Rattle.mr_kept.specs.Entries.{AllBelong, Belongs, issued_after, notes_of}
-use Rattle.mr_kept.specs.Kept.{head_of, issued_of, journal_of, kept_of, replica_of}
-use Rattle.mr_kept.specs.Opening.{IsOfOther, IsOfPlace, IsReplayed, Reopens}
-use Rattle.mr_kept.specs.Refusing.{IsBehindHead, IsLonger, IsNoFilter, IsNoHead, IsNoReplay, IsOpenFault, IsOutOfOrder, IsRefused, IsUnread, IsWrong, StopsAt}
-use Rattle.mr_kept.specs.Whole.{ComesBack, HasLog, HasLogOf, IsOf, IsOfMachine}
 use Rattle.mr_kept.proofs.EntryLemmas.{all_split, events_append, events_cons, issued_cons}
 use Rattle.mr_kept.proofs.LogLemmas.{replayed_few}
-use Rattle.mr_kept.specs.inner.Opening.{IsRead}
 use Rattle.mr_kept.proofs.OpenLemmas.{as_going, replayed_setting}
 
 -- ---- one entry
@@ -70,17 +46,10 @@ head_no_place : (issued : ℕ) (e : Entry) (head : HeadParts) → Belongs issued
 head_no_place issued e head h is = let no : Belongs issued (entry.Head head) = subst (λ (x : Entry). Belongs issued x) is h in no
 
 order_memory : (place issued count : ℕ) (e : Entry) (why : OpenFault) → Belongs issued e → count + length (events_of_entry e) ≤ MAX_EVENTS + 1 → IsOutOfOrder place issued count e why → why ≡ fault.OutOfMemory
-order_memory place issued count e fault.OutOfMemory b few h = refl
-order_memory place issued count e (fault.Misplaced at) b few h = absurd (head_no_place issued e h.0 b h.2)
-order_memory place issued count e (fault.OtherCounter at) b few h = absurd (h.4 (subst (λ (x : Entry). Belongs issued x) h.3 b))
-order_memory place issued count e fault.TooManyEvents b few h = absurd (omega (arith, few, h.1))
-order_memory place issued count e why b few h = absurd h
+order_memory place issued count e why b few h = grind (arith, head_no_place)
 
 wrong_memory : (place issued count : ℕ) (e : Entry) (text : List ℕ) (why : OpenFault) → Spells e text → Belongs issued e → count + length (events_of_entry e) ≤ MAX_EVENTS + 1 → IsWrong place issued count text why → why ≡ fault.OutOfMemory
-wrong_memory place issued count e text why s b few (inl unread) = unread_memory place e text why s unread
-wrong_memory place issued count e text why s b few (inr other) =
-    let same : e ≡ other.0 = one_entry e other.0 text s other.1 in
-    order_memory place issued count e why b few (subst (λ (x : Entry). IsOutOfOrder place issued count x why) (sym same) other.2)
+wrong_memory place issued count e text why s b few h = grind (arith, unread_memory, one_entry, order_memory)
 
 -- ---- entries
 
@@ -121,12 +90,7 @@ belongs_at n (x ∷ xs) e behind h =
     subst (λ (m : ℕ). Belongs m e) (sym (issued_cons n x xs)) (belongs_at (issued_after n (events_of_entry x)) xs e behind h.1)
 
 few_at : (before : List Entry) (e : Entry) (behind : List Entry) → length (events_of before) + length (events_of_entry e) ≤ length (events_of (before ++ e ∷ behind))
-few_at before e behind =
-    let all = ap length (events_append before (e ∷ behind)) in
-    let both = length-append (events_of before) (events_of (e ∷ behind)) in
-    let one = ap length (events_cons e behind) in
-    let more = length-append (events_of_entry e) (events_of behind) in
-    omega (arith, all, both, one, more)
+few_at before e behind = grind (arith, events_append, length-append, events_cons)
 
 -- none of them is wrong
 stop_memory : (entries : List Entry) (why : OpenFault) → AllByRecursion IsEntry entries → AllBelong 0 entries → length (events_of entries) ≤ MAX_EVENTS + 1 → StopsAt (map entry_bytes entries) why → why ≡ fault.OutOfMemory
@@ -143,14 +107,10 @@ machine : (why : OpenFault) → why ≡ fault.OutOfMemory → IsOfMachine why
 machine why is = subst (λ (f : OpenFault). IsOfMachine f) (sym is) tt
 
 filter_machine : (text : List ℕ) (filter : List ClauseParts) (why : OpenFault) → Reads text filter → IsFilter filter → IsNoFilter text why → IsOfMachine why
-filter_machine text filter fault.OutOfMemory reads is h = tt
-filter_machine text filter (fault.BadFilter why) reads is h = absurd (h.0 (Reads-fault text filter reads is why h.1))
-filter_machine text filter why reads is h = absurd h
+filter_machine text filter why reads is h = grind (arith, Reads-fault)
 
 other_place : (head : HeadParts) (mark : List ℕ) (birth : Option (List ℕ)) (why : OpenFault) → IsOfPlace head mark birth → IsOfOther head mark birth why → ⊥
-other_place head mark birth fault.Copied place h = h place.mark_is
-other_place head mark birth fault.OtherBirth place h = h.3 (place.birth_is h.0 h.1)
-other_place head mark birth why place h = h
+other_place head mark birth why place h = grind arith
 
 same_heads : (a b : HeadParts) (xs ys : List Entry) → entry.Head a ∷ xs ≡ entry.Head b ∷ ys → (a ≡ b) × (xs ≡ ys)
 same_heads a b xs ys is = (cc, cc)
@@ -167,8 +127,7 @@ module _ {K : Type 0} (form : Form K) (meaning : IsByMeaning form) where
 
   -- a replay as its head has it
   as_head : (head : HeadParts) (s : State K) (events : List Event) → s.id ≡ head.id → s.event_limit ≡ head.event_limit → s.log ≡ events → IsItsLog form s → Replays form head.id s.filter head.event_limit events s
-  as_head head s events id limit log is =
-      subst (λ (n : ℕ). Replays form n s.filter head.event_limit events s) id (subst (λ (n : ℕ). Replays form s.id s.filter n events s) limit (subst (λ (l : List Event). Replays form s.id s.filter s.event_limit l s) log is))
+  as_head head s events id limit log is = grind arith
 
   module _ (file : List ℕ) (head : HeadParts) (s : State K) (notes : List NoteParts) (left : HasLogOf form file head s notes) where
     few : length (events_of left.entries) ≤ MAX_EVENTS + 1

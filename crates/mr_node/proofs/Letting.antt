@@ -1,25 +1,9 @@
 -- What a gate has let pass.
 use Rattle.std.proofs.Common.{◌≡◌, ◌+◌, ℕ, Bool, Bor, List, Result, IfOk, subst, sym, arith, below_more}
-use Rattle.std.proofs.lemmas.Result.{IfOk-weaker}
-use Rattle.mr_lane.specs.declared.note.Sender.{Sender}
-use Rattle.mr_link.specs.Wire.{WireView}
-use Rattle.mr_link.specs.declared.snag.Snag.{Snag}
-use Rattle.mr_link.specs.declared.snag.Snag.TheVariants as snag
-use Rattle.mr_replica.specs.declared.event.Event.{Event}
-use Rattle.mr_replica.specs.declared.event.Event.TheVariants as event
-use Rattle.mr_replica.specs.declared.event.Reply.{Reply}
-use Rattle.mr_replica.specs.declared.refusal.Refusal.{Refusal}
-use Rattle.mr_threads.specs.Talk.{Says}
-use Rattle.mr_threads.specs.declared.talk.Talk.{Talk}
-use Rattle.mr_threads.specs.declared.talk.Halt.{Halt}
-use Rattle.mr_node.specs.Saying.{Saying, one_if_receive, receives, HasLet}
+use Rattle.mr_node.proofs.Names.{AreLetPass, Event, Fetches, Halt, HasLet, IfOk-weaker, LetsMove, LinkRan, Move, Refusal, Reply, Saying, Says, Sender, Snag}
+use Rattle.mr_node.proofs.Names.{Talk, Turn, WireView, one_if_receive, receives, unread}
 use Rattle.mr_node.specs.inner.Saying.{IsLetPass}
-use Rattle.mr_node.specs.inner.Step.{Fetches, LetsMove, unread}
-use Rattle.mr_node.specs.Stop.{LinkRan, AreLetPass}
-use Rattle.mr_node.specs.declared.turn.Turn.{Turn}
 use Rattle.mr_node.specs.declared.turn.Turn.TheVariants as turn
-use Rattle.mr_node.specs.declared.next_move.Move.{Move}
-use Rattle.mr_node.specs.declared.next_move.Move.TheVariants as move
 
 -- no record was posted
 pub let_none : (has_let : ℕ → Type 0) (count : ℕ) → count ≡ 0 → HasLet has_let count
@@ -27,8 +11,7 @@ let_none has_let count none = λ n below. absurd (omega (arith, none, below))
 
 -- the gate and its link are those of before
 pub let_same : {G : Type 0} (has_let : G → Sender → ℕ → Type 0) (a b : Bor G) (s t : Sender) (count : ℕ) → a ≡ b → s ≡ t → HasLet (has_let a.now s) count → HasLet (has_let b.now t) count
-let_same has_let a b s t count gate link h =
-    subst (λ (z : Bor _). HasLet (has_let z.now t) count) gate (subst (λ (z : Sender). HasLet (has_let a.now z) count) link h)
+let_same has_let a b s t count gate link h = grind arith
 
 -- one record more was let pass
 one_more : (has_let : ℕ → Type 0) (count more : ℕ) → HasLet has_let count → has_let (count + 1) → more ≡ count + 1 → HasLet has_let more
@@ -39,28 +22,14 @@ none_more has_let count more h is = let same : more ≡ count = omega (arith, is
 
 -- a letter more was posted, which was let pass if it is a record
 pub let_more : (has_let : ℕ → Type 0) (count more : ℕ) (letter : Event) → HasLet has_let count → IsLetPass (has_let (count + 1)) letter → more ≡ count + one_if_receive letter → HasLet has_let more
-let_more has_let count more (event.Receive f) h here is = one_more has_let count more h here is
-let_more has_let count more (event.Create m) h here is = none_more has_let count more h is
-let_more has_let count more (event.Edit b m) h here is = none_more has_let count more h is
-let_more has_let count more event.Pull h here is = none_more has_let count more h is
-let_more has_let count more (event.CutIn s) h here is = none_more has_let count more h is
-let_more has_let count more (event.Answer a) h here is = none_more has_let count more h is
-let_more has_let count more (event.Next s) h here is = none_more has_let count more h is
-let_more has_let count more (event.CutOut s) h here is = none_more has_let count more h is
-let_more has_let count more event.Retire h here is = none_more has_let count more h is
-let_more has_let count more (event.Vouch v) h here is = none_more has_let count more h is
-let_more has_let count more (event.Release r) h here is = none_more has_let count more h is
+let_more has_let count more letter h here is = grind (arith, one_more, none_more)
 
 -- a move that makes a letter of a frame other than a record posts none
 serve_lets : (P : Type 0) (may : Bool) (old : WireView) (m : Move) (new : WireView) → Fetches may turn.Serve old m new → LetsMove P m
-serve_lets P may old (move.Say letter) new h = subst (λ (e : Event). IsLetPass P e) (sym h.0.1) tt
-serve_lets P may old move.Done new h = tt
-serve_lets P may old (move.Stop why) new h = tt
+serve_lets P may old m new h = grind arith
 
 redeem_lets : (P : Type 0) (may : Bool) (count : ℕ) (old : WireView) (m : Move) (new : WireView) → Fetches may (turn.Redeem count) old m new → LetsMove P m
-redeem_lets P may count old (move.Say letter) new h = subst (λ (e : Event). IsLetPass P e) (sym h.0.1) tt
-redeem_lets P may count old move.Done new h = tt
-redeem_lets P may count old (move.Stop why) new h = tt
+redeem_lets P may count old m new h = grind arith
 
 pub serve_let : (P : Type 0) (may : Bool) (old new : WireView) (r : Result Move Halt) → IfOk r (λ m. Fetches may turn.Serve old m new) → IfOk r (λ m. LetsMove P m)
 serve_let P may old new r h = IfOk-weaker r (λ m. Fetches may turn.Serve old m new) (λ m. LetsMove P m) (λ m k. serve_lets P may old m new k) h
@@ -70,10 +39,7 @@ redeem_let P may count old new r h = IfOk-weaker r (λ m. Fetches may (turn.Rede
 
 -- nor one that no frame came for
 pub unread_let : (P : Type 0) (s : Snag) → IfOk (unread s) (λ m. LetsMove P m)
-unread_let P snag.OutOfMemory = tt
-unread_let P snag.LinkDown = tt
-unread_let P snag.BadFrame = tt
-unread_let P snag.TooLong = tt
+unread_let P s = grind arith
 
 -- the letters of a link, with those that it said
 pub let_all : {R : Type 0} (has_let : ℕ → Type 0) (closes : ℕ → Bool) (turns : List Turn) (old new : WireView) (talk talk' : Talk Event (Result Reply Refusal) R) (posted : ℕ) → HasLet has_let posted

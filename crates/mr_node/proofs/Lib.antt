@@ -1,3 +1,4 @@
+pub mod Names
 pub mod Hosting
 pub mod Moving
 pub mod Sending

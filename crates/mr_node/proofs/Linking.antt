@@ -1,39 +1,17 @@
 -- Turns, one behind the other.
-use Rattle.std.proofs.Common.{◌≡◌, ◌<◌, ◌+◌, ◌^◌, ◌++◌, ◌⊎◌, ℕ, Bool, true, false, cond, List, [], ◌∷◌, Option, Some, Result, IsSome, refl, sym, ap, subst, ◌∙◌, append_assoc, arith, inl, inr, ⊎_elim}
+use Rattle.std.proofs.Common.{◌≡◌, ◌<◌, ◌+◌, ◌^◌, ◌++◌, ◌⊎◌, ℕ, Bool, true, false, cond, List, [], ◌∷◌, Option, Some, Result, IsSome, refl, sym, ap, subst, ◌∙◌, append_assoc, arith, inr, ⊎_elim}
 use Rattle.std.proofs.lemmas.Bool.{false≢true}
-use Rattle.std.proofs.lemmas.List.{append-nil}
-use Rattle.mr_wire.specs.declared.frame.Frame.{Frame}
-use Rattle.mr_link.specs.Link.{LinkView, with_hang_up}
-use Rattle.mr_link.specs.Wire.{WireView, PassesWell, IsSpoilt, new_wire, unread_in}
-use Rattle.mr_replica.specs.declared.event.Event.{Event}
-use Rattle.mr_replica.specs.declared.event.Event.TheVariants.{CutIn, CutOut}
-use Rattle.mr_replica.specs.declared.event.Reply.{Reply}
-use Rattle.mr_replica.specs.declared.refusal.Refusal.{Refusal}
-use Rattle.std.specs.Global.{Vec}
+use Rattle.mr_node.proofs.Names.{AreLetPass, AreWhole, CutIn, CutOut, Event, Frame, HasHungUp, IsHungUpBehind, IsHungUpLast, IsReady}
+use Rattle.mr_node.proofs.Names.{IsVoiceOf, IsWhole, LinkRan, LinkView, LinkVoice, Nothing, Opened, PassesWell}
+use Rattle.mr_node.proofs.Names.{Refusal, Reply, Runs, SaidInTurn, SaidTurns, Saying, Says, SaysCut, SaysWhole, Sender, Session, SpokeInTurn}
+use Rattle.mr_node.proofs.Names.{Stop, Stops, Stream, Talk, Turn, Vec, WireView, append-nil, are_over, cut_of, frames_given, frames_read, letters_said}
+use Rattle.mr_node.proofs.Names.{new_wire, one_if_receive, opened_behind, passes_none, receives, says-append, says_none, unread_in, with_hang_up}
 use Rattle.mr_lane.specs.Post.{PostView}
 use Rattle.mr_lane.specs.Tap.{TapEnd}
-use Rattle.mr_lane.specs.declared.note.Sender.{Sender}
 use Rattle.mr_threads.specs.Ends.{HasSpoken}
 use Rattle.mr_threads.specs.declared.voice.Voice.{Voice}
-use Rattle.mr_threads.specs.Exchange.{letters_said}
-use Rattle.mr_threads.specs.Talk.{Says, SpokeInTurn}
-use Rattle.mr_threads.specs.declared.talk.Talk.{Talk}
-use Rattle.mr_threads.proofs.Saying.{says_none, says-append}
-use Rattle.mr_link.proofs.Passing.{passes_none}
-use Rattle.mr_node.specs.Saying.{Saying, frames_read, frames_given, one_if_receive, receives, are_over, opened_behind, cut_of}
-use Rattle.mr_node.specs.Turn.{reads, IsWhole, AreWhole}
-use Rattle.mr_node.specs.Stop.{Stops, IsThrough, IsStopped, LinkRan, AreLetPass}
-use Rattle.mr_node.specs.inner.Step.{SaysWhole, SaysCut}
-use Rattle.mr_node.specs.inner.Voice.{IsVoiceOf, IsHungUpBehind, IsReady, Runs, HasHungUp}
-use Rattle.mr_node.specs.Thread.{SaidTurns, SaidInTurn, IsHungUpLast}
-use Rattle.mr_node.specs.declared.link_voice.LinkVoice.{LinkVoice}
 use Rattle.mr_node.specs.declared.link_thread.LinkParts.{LinkParts}
 use Rattle.mr_node.specs.declared.link_thread.LinkEnd.{LinkEnd}
-use Rattle.mr_node.specs.declared.turn.Turn.{Turn}
-use Rattle.mr_node.specs.declared.turn.Stop.{Stop}
-use Rattle.mr_node.specs.declared.turn.Stop.TheVariants.{Refused, NotSent, NotReceived, BadFrame, Shut}
-use Rattle.mr_node.specs.declared.progress.Opened.{Opened}
-use Rattle.mr_node.specs.declared.progress.Opened.TheVariants.{Nothing, Session, Stream}
 use Rattle.mr_node.proofs.Talking.{receives-append, well-append, stops-append}
 
 -- these turns were taken, each whole, by a link that had posted nothing before
@@ -111,12 +89,7 @@ turns_none talk wire posted none has = record { said = []; are_whole = refl; say
 module _ {R : Type 0} (talk talk' : Talk Event (Result Reply Refusal) R) (wire wire' : WireView) (posted : ℕ) where
   -- all were
   pub turns_through : (closes : ℕ → Bool) (all ts : List Turn) → ts ≡ all → SaysTurns ts talk wire talk' wire' posted → (xs : List Saying) × LinkRan closes all wire xs wire' × Says talk xs talk' × (receives xs ≡ posted)
-  turns_through closes all ts are h = (
-    h.said,
-    inl (record { are_whole = subst (λ (l : List Turn). AreWhole l h.said) are h.are_whole; passes = h.passes }),
-    h.says,
-    sym h.counted,
-  )
+  turns_through closes all ts are h = grind arith
 
 abbrev pub wire_with : LinkView → Option (List ℕ) → WireView
 wire_with link unread = record { link = link; unread = unread }
@@ -125,18 +98,10 @@ wire_with link unread = record { link = link; unread = unread }
 
 -- no turn hangs it up
 stops_up : (may : Bool) (t : Turn) (old : WireView) (read given : List Frame) (why : Stop) (new : WireView) → Stops may t old read given why new → new.link.hung_up ≡ old.link.hung_up
-stops_up may t old read given Refused new h = h.up
-stops_up may t old read given NotSent new h = h.3.up
-stops_up may t old read given NotReceived new h = h.0.up
-stops_up may t old read given BadFrame new h = ⊎_elim (λ (bad : IsSpoilt old read given new). bad.up) (λ (wrong : (f : Frame) × (reads t f ≡ false) × PassesWell old (read ++ f ∷ []) given new). wrong.2.up) h
-stops_up may t old read given Shut new h = h.2.1.up
+stops_up may t old read given why new h = grind (arith, ⊎_elim)
 
 pub ran_up : (closes : ℕ → Bool) (turns : List Turn) (old : WireView) (xs : List Saying) (new : WireView) → LinkRan closes turns old xs new → new.link.hung_up ≡ old.link.hung_up
-ran_up closes turns old xs new h =
-    ⊎_elim (λ (through : IsThrough turns old xs new). through.passes.up)
-    (λ (stopped : IsStopped closes turns old xs new).
-    let all = stopped.said_before ++ stopped.part in
-    stops_up (closes (receives all + 1)) stopped.turn old (frames_read all) (frames_given all) stopped.stop new stopped.why) h
+ran_up closes turns old xs new h = grind (arith, ⊎_elim, stops_up)
 
 abbrev flagged : LinkView → Bool → LinkView
 flagged v b = record v { hung_up = b }
@@ -148,30 +113,20 @@ module _ {L : Type 0} (tells : L → LinkView) (hung_up_at : L → LinkView → 
   -- where it may have been hung up already, it is so once more
   pub hangs_up_behind : (last : LinkView) (l k : L) → tells k ≡ with_hang_up (tells l) → hung_up_at k (tells l) → ((v : LinkView) → hung_up_at l v → hung_up_at k v)
       → (tells l ≡ last) ⊎ IsHungUpBehind tells hung_up_at last l → IsHungUpBehind tells hung_up_at last k
-  hangs_up_behind last l k hangs told kept ends =
-      ⊎_elim (λ (is : tells l ≡ last). record { same = hangs ∙ ap (λ v. flagged v true) is; behind = subst (λ (v : LinkView). hung_up_at k v) is told })
-      (λ (was : IsHungUpBehind tells hung_up_at last l). record { same = hangs ∙ ap (λ v. flagged v true) was.same; behind = kept last was.behind }) ends
+  hangs_up_behind last l k hangs told kept ends = grind (arith, ⊎_elim)
 
   -- a link that is hung up is what it was, but for that
   pub is_hung_up : (last : LinkView) (l : L) → (tells l).hung_up ≡ true → (tells l ≡ last) ⊎ IsHungUpBehind tells hung_up_at last l → tells l ≡ with_hang_up last
-  is_hung_up last l up ends =
-      ⊎_elim (λ (is : tells l ≡ last). sym (same_flag (tells l) true up) ∙ ap (λ v. flagged v true) is) (λ (was : IsHungUpBehind tells hung_up_at last l). was.same) ends
+  is_hung_up last l up ends = grind (arith, ⊎_elim, same_flag)
 
   -- and was hung up behind all that passed
   pub is_hung_up_last : (old : L) (last : LinkView) (l : L) → last.hung_up ≡ (tells old).hung_up → (tells l).hung_up ≡ true → (tells l ≡ last) ⊎ IsHungUpBehind tells hung_up_at last l → IsHungUpLast tells hung_up_at old l
-  is_hung_up_last old last l still up ends = λ unhung.
-      ⊎_elim (λ (is : tells l ≡ last). let same : (tells l).hung_up ≡ false = ap (λ (v : LinkView). v.hung_up) is ∙ (still ∙ unhung) in absurd (false≢true (sym same ∙ up)))
-      (λ (was : IsHungUpBehind tells hung_up_at last l).
-      subst (λ (v : LinkView). hung_up_at l v) (sym (ap (λ v. flagged v false) was.same ∙ same_flag last false (still ∙ unhung))) was.behind) ends
+  is_hung_up_last old last l still up ends = grind (arith, ⊎_elim, false≢true, same_flag)
 
 -- a link's conversation, of the parts of its voice
 pub ran_as : (c d : ℕ → Bool) (ts us : List Turn) (k l : LinkView) (r : Option (List ℕ)) (new : WireView) (xs : List Saying)
     → d ≡ c → us ≡ ts → l ≡ k → r ≡ Some [] → LinkRan c ts (wire_with k r) xs new → LinkRan d us (new_wire l) xs new
-ran_as c d ts us k l r new xs closes turns link reader h =
-    subst (λ (z : ℕ → Bool). LinkRan z us (new_wire l) xs new) (sym closes)
-    (subst (λ (z : List Turn). LinkRan c z (new_wire l) xs new) (sym turns)
-    (subst (λ (z : LinkView). LinkRan c ts (new_wire z) xs new) (sym link)
-    (subst (λ (z : Option (List ℕ)). LinkRan c ts (wire_with k z) xs new) reader h)))
+ran_as c d ts us k l r new xs closes turns link reader h = grind arith
 
 module _ {L G : Type 0} (tells : L → LinkView) (hung_up_at : L → LinkView → Type 0) (closes : G → Sender → ℕ → Bool) (has_let : G → Sender → ℕ → Type 0) (gate : G) (sender : Sender) (link : L) (turns : Vec Turn) (voice : LinkVoice L G) where
   pub voice_ready : IsVoiceOf gate sender link turns voice → (tells link).downs + 1 < 2 ^ 64 → IsReady tells voice
@@ -180,14 +135,11 @@ module _ {L G : Type 0} (tells : L → LinkView) (hung_up_at : L → LinkView �
   -- a link's conversation, of the link and its turns
   pub voice_ran : (conversation : List Saying) (spoken : LinkVoice L G) → IsVoiceOf gate sender link turns voice → (h : Runs tells hung_up_at closes has_let voice conversation spoken)
       → LinkRan (closes gate sender) turns.items (new_wire (tells link)) conversation (wire_with h.last (unread_in spoken.wire.reader spoken.wire.held))
-  voice_ran conversation spoken is h =
-      ran_as (closes voice.guard.gate.now voice.guard.link) (closes gate sender) voice.turns.items turns.items (tells voice.wire.link) (tells link) (unread_in voice.wire.reader voice.wire.held) (wire_with h.last (unread_in spoken.wire.reader spoken.wire.held)) conversation
-      (sym (ap (λ g. closes g voice.guard.link) is.gate ∙ ap (λ s. closes gate s) is.sender)) (ap (λ (v : Vec Turn). v.items) (sym is.turns)) (ap tells (sym is.link)) (ap (λ r. unread_in r voice.wire.held) is.reader ∙ ap (λ h. unread_in (Some []) h) is.held) h.ran
+  voice_ran conversation spoken is h = grind (arith, ran_as)
 
   -- its gate has let its records pass
   pub voice_let : (conversation : List Saying) (spoken : LinkVoice L G) → IsVoiceOf gate sender link turns voice → Runs tells hung_up_at closes has_let voice conversation spoken → AreLetPass (has_let gate sender) conversation
-  voice_let conversation spoken is h =
-      subst (λ (z : G). AreLetPass (has_let z sender) conversation) is.gate (subst (λ (z : Sender). AreLetPass (has_let voice.guard.gate.now z) conversation) is.sender h.let_pass)
+  voice_let conversation spoken is h = grind arith
 
   -- it is what it was behind that, but that it was hung up
   pub voice_hung_up : (conversation : List Saying) (spoken : LinkVoice L G) (new : L) (h : Runs tells hung_up_at closes has_let voice conversation spoken) → HasHungUp tells spoken → new ≡ spoken.wire.link → tells new ≡ with_hang_up h.last
@@ -220,11 +172,4 @@ said_turns tells hung_up_at closes has_let gate turns old speaker voice end is h
 
 -- what it said, whether or not it took all its turns
 pub said_in_turn : {L S R : Type 0} (voice : Voice S Event (Result Reply Refusal) R) (end : LinkEnd L R) → SpokeInTurn voice.talk → end.post ≡ voice.talk.post → end.tap ≡ voice.talk.tap → SaidInTurn end
-said_in_turn voice end h post tap = record {
-  answered = h.answered;
-  unanswered = h.unanswered;
-  one_at_most = h.one_at_most;
-  sent = ap (λ (p : PostView Event). p.sent) post ∙ h.sent;
-  rest = h.rest;
-  passed = ap (λ (e : TapEnd (Result Reply Refusal)). e.passed) tap ∙ h.passed;
-}
+said_in_turn voice end h post tap = grind arith

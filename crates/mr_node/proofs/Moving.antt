@@ -1,28 +1,10 @@
 -- What a turn does next, by what it has said.
-use Rattle.std.proofs.Common.{◌≡◌, ◌≢◌, ◌==◌, ℕ, Bool, true, false, List, [], ◌∷◌, length, Some, Result, Err, IfOk, IsSome, IsTrue, refl, sym, ap, subst, ◌∙◌, inl, inr, arith}
-use Rattle.std.proofs.lemmas.Result.{IfOk-weaker}
-use Rattle.std.proofs.lemmas.Bool.Decides.{nat_tests}
-use Rattle.std.specs.List.{slice_get}
-use Rattle.std.specs.Global.{Vec}
-use Rattle.mr_version.specs.Name.{Name}
-use Rattle.mr_wire.specs.declared.frame.Frame.{Frame}
-use Rattle.mr_link.specs.Wire.{WireView, PassesWell, ReadsFrame}
-use Rattle.mr_link.specs.declared.snag.Snag.{Snag}
+use Rattle.std.proofs.Common.{◌≡◌, ◌≢◌, ◌==◌, ℕ, Bool, false, List, ◌∷◌, length, Some, Result, Err, IfOk, IsSome, sym, ap, subst, ◌∙◌, arith}
+use Rattle.mr_node.proofs.Names.{Fetches, Halt, IfOk-weaker, Move, Moves, Name, Progress, ReadsFrame}
+use Rattle.mr_node.proofs.Names.{ReadsLetter, Saying, Snag, Turn, Vec, Vouch, WireView, are_over, nat_tests, passes_none}
+use Rattle.mr_node.proofs.Names.{progress_of, slice_get}
 use Rattle.mr_link.specs.declared.snag.Snag.TheVariants as snag
-use Rattle.mr_link.proofs.Passing.{passes_none}
-use Rattle.mr_replica.specs.declared.event.Event.TheVariants.{Pull, Next, Vouch}
-use Rattle.mr_threads.specs.declared.talk.Halt.{Halt}
-use Rattle.mr_node.specs.Saying.{Saying, are_over, opened_behind}
-use Rattle.mr_node.specs.Turn.{reads}
-use Rattle.mr_node.specs.inner.Turn.{progress_of}
-use Rattle.mr_node.specs.inner.Step.{Fetches, Moves, ReadsLetter, unread}
-use Rattle.mr_node.specs.declared.turn.Turn.{Turn}
 use Rattle.mr_node.specs.declared.turn.Turn.TheVariants as turn
-use Rattle.mr_node.specs.declared.turn.Stop.TheVariants.{BadFrame, Shut}
-use Rattle.mr_node.specs.declared.progress.Opened.{Opened}
-use Rattle.mr_node.specs.declared.progress.Opened.TheVariants.{Stream}
-use Rattle.mr_node.specs.declared.progress.Progress.{Progress}
-use Rattle.mr_node.specs.declared.next_move.Move.{Move}
 use Rattle.mr_node.specs.declared.next_move.Move.TheVariants as move
 
 said_is : (xs : List Saying) (p : Progress) → p ≡ progress_of xs → p.said ≡ length xs
@@ -35,19 +17,13 @@ none_said : (x : Saying) (xs : List Saying) (p : Progress) → p ≡ progress_of
 none_said x xs p is zero = let e : length (x ∷ xs) ≡ 0 = sym (said_is (x ∷ xs) p is) ∙ zero in cc e
 
 pub next_grant : (may : Bool) (versions : Vec Name) (v : Name) (xs : List Saying) (p : Progress) (old : WireView) → p ≡ progress_of xs → (p.said == length versions.items) ≡ false → slice_get versions.items p.said ≡ Some v → IsSome old.unread → Moves may (turn.Grant versions) xs old (move.Say (Vouch v)) old
-next_grant may versions v xs p old is undone at has =
-    (ap (λ n. n == length versions.items) (sym (said_is xs p is)) ∙ undone, (v, ap (slice_get versions.items) (sym (said_is xs p is)) ∙ at, refl), passes_none old has)
+next_grant may versions v xs p old is undone at has = grind (arith, said_is, passes_none)
 
 pub fetches_serve : (may : Bool) (xs : List Saying) (p : Progress) (old : WireView) (m : Move) (new : WireView) → p ≡ progress_of xs → p.over ≡ false → p.said ≡ 0 → Fetches may turn.Serve old m new → Moves may turn.Serve xs old m new
-fetches_serve may (x ∷ xs) p old m new is over zero h = absurd (none_said x xs p is zero)
-fetches_serve may [] p old (move.Say letter) new is over zero h = (over_is [] p false is over, h.0, h.1)
-fetches_serve may [] p old move.Done new is over zero h = absurd h
-fetches_serve may [] p old (move.Stop why) new is over zero h = (over_is [] p false is over, refl, h.0, h.1)
+fetches_serve may xs p old m new is over h k = grind (arith, none_said, over_is)
 
 pub fetches_redeem : (may : Bool) (count : ℕ) (xs : List Saying) (p : Progress) (old : WireView) (m : Move) (new : WireView) → p ≡ progress_of xs → (p.said == count) ≡ false → Fetches may (turn.Redeem count) old m new → Moves may (turn.Redeem count) xs old m new
-fetches_redeem may count xs p old (move.Say letter) new is undone h = (ap (λ n. n == count) (sym (said_is xs p is)) ∙ undone, h.0, h.1)
-fetches_redeem may count xs p old move.Done new is undone h = absurd h
-fetches_redeem may count xs p old (move.Stop why) new is undone h = (ap (λ n. n == count) (sym (said_is xs p is)) ∙ undone, refl, h.0, h.1)
+fetches_redeem may count xs p old m new is undone h = grind (arith, said_is)
 
 -- a test that is false
 never_equal : (a b : ℕ) → a ≢ b → (a == b) ≡ false
@@ -55,20 +31,14 @@ never_equal a b apart = grind (arith, nat_tests)
 
 -- where a letter was made of a frame, the frame was read
 pub fetches_reads : (may : Bool) (t : Turn) (old : WireView) (m : Move) (new : WireView) → Fetches may t old m new → ReadsLetter old m new
-fetches_reads may t old (move.Say letter) new h = h.1
-fetches_reads may t old move.Done new h = tt
-fetches_reads may t old (move.Stop why) new h = tt
+fetches_reads may t old m new h = grind arith
 
 -- what is fetched next
 pub serve_so : (may : Bool) (t : Turn) (xs : List Saying) (p : Progress) (r : Result Move Halt) (old new : WireView) → t ≡ turn.Serve → p ≡ progress_of xs → p.over ≡ false → p.said ≡ 0 → IfOk r (λ m. Fetches may turn.Serve old m new) → IfOk r (λ m. Moves may t xs old m new)
-serve_so may t xs p r old new is at over zero h =
-    subst (λ (u : Turn). IfOk r (λ m. Moves may u xs old m new)) (sym is)
-    (IfOk-weaker r (λ m. Fetches may turn.Serve old m new) (λ m. Moves may turn.Serve xs old m new) (λ m k. fetches_serve may xs p old m new at over zero k) h)
+serve_so may t xs p r old new is at over h k = grind (arith, IfOk-weaker, fetches_serve)
 
 pub redeem_so : (may : Bool) (t : Turn) (count : ℕ) (xs : List Saying) (p : Progress) (r : Result Move Halt) (old new : WireView) → t ≡ turn.Redeem count → p ≡ progress_of xs → p.said ≢ count → IfOk r (λ m. Fetches may (turn.Redeem count) old m new) → IfOk r (λ m. Moves may t xs old m new)
-redeem_so may t count xs p r old new is at undone h =
-    subst (λ (u : Turn). IfOk r (λ m. Moves may u xs old m new)) (sym is)
-    (IfOk-weaker r (λ m. Fetches may (turn.Redeem count) old m new) (λ m. Moves may (turn.Redeem count) xs old m new) (λ m k. fetches_redeem may count xs p old m new at (never_equal p.said count undone) k) h)
+redeem_so may t count xs p r old new is at undone h = grind (arith, IfOk-weaker, fetches_redeem, never_equal)
 
 pub reads_so : (may : Bool) (t : Turn) (r : Result Move Halt) (old new : WireView) → IfOk r (λ m. Fetches may t old m new) → IfOk r (λ m. ReadsLetter old m new)
 reads_so may t r old new h = IfOk-weaker r (λ m. Fetches may t old m new) (λ m. ReadsLetter old m new) (λ m k. fetches_reads may t old m new k) h
@@ -80,7 +50,4 @@ grant_so may t versions v xs p old is at undone there has =
 
 -- a frame that is read is none too long
 pub reads_none_too_long : (old : WireView) (s : Snag) (new : WireView) → ReadsFrame old (Err s) new → s ≢ snag.TooLong
-reads_none_too_long old snag.LinkDown new h = λ e. absurd (cc e)
-reads_none_too_long old snag.OutOfMemory new h = λ e. absurd (cc e)
-reads_none_too_long old snag.BadFrame new h = λ e. absurd (cc e)
-reads_none_too_long old snag.TooLong new h = λ e. absurd h
+reads_none_too_long old s new h = grind arith

@@ -1,21 +1,12 @@
 -- A node's threads, and what they come to for its parts.
+use Rattle.std.proofs.Common.{arith}
 use Rattle.std.proofs.Common.{◌≡◌, ◌<◌, ◌+◌, ◌^◌, ◌++◌, ℕ, Bool, List, Result, sym, ap, subst, ◌∙◌}
-use Rattle.std.specs.Global.{Vec}
-use Rattle.mr_forms.specs.Known.{Form}
+use Rattle.mr_node.proofs.Names.{Event, Form, HasHungUp, IsHungUpLast, IsVoiceOf, LinkView, LinkVoice, Name, Refusal, Replays, Reply, Runs, Saying, Sender}
+use Rattle.mr_node.proofs.Names.{State, Steps, Vec, feed_of, said_by, unread_in}
 use Rattle.mr_mail.specs.Mail.{MailCard}
-use Rattle.mr_version.specs.Name.{Name}
-use Rattle.mr_lane.specs.declared.note.Sender.{Sender}
 use Rattle.mr_lane.specs.declared.note.Sender.TheVariants.{FirstLink, SecondLink}
-use Rattle.mr_link.specs.Link.{LinkView}
-use Rattle.mr_link.specs.Wire.{unread_in}
-use Rattle.mr_replica.specs.State.{State}
-use Rattle.mr_replica.specs.Step.{Steps}
-use Rattle.mr_replica.specs.declared.event.Event.{Event}
-use Rattle.mr_replica.specs.declared.event.Reply.{Reply}
-use Rattle.mr_replica.specs.declared.refusal.Refusal.{Refusal}
 use Rattle.mr_subs.specs.Index.{HasCards}
 use Rattle.mr_subs.specs.Unseen.{ListsUnseen}
-use Rattle.mr_threads.specs.Exchange.{said_by, Replays}
 use Rattle.mr_threads.specs.Letters.{SaysLetters}
 use Rattle.mr_threads.specs.Roles.{TookEntries, RolesRan}
 use Rattle.mr_threads.specs.Running.{HaveHungUp}
@@ -26,14 +17,9 @@ use Rattle.mr_threads.specs.declared.roles.Heard.{Heard}
 use Rattle.mr_subs.specs.Subscriber.{Keeping}
 use Rattle.mr_model.specs.Headline.{Cards}
 use Rattle.mr_feed.specs.declared.entry.Entry.{Entry}
-use Rattle.mr_node.specs.Machine.{feed_of}
-use Rattle.mr_node.specs.Saying.{Saying}
-use Rattle.mr_node.specs.inner.Voice.{IsVoiceOf, Runs, HasHungUp}
-use Rattle.mr_node.specs.Thread.{IsHungUpLast}
 use Rattle.mr_node.proofs.Linking.{voice_ready, voice_ran, voice_let, voice_hung_up, voice_last}
 use Rattle.mr_node.specs.inner.Joining.{AreRolesOf, AreReady, IsEndOf}
 use Rattle.mr_node.specs.Node.{HadTurns, ShowsAll, NodeRan, ReplicaNodeRan}
-use Rattle.mr_node.specs.declared.link_voice.LinkVoice.{LinkVoice}
 use Rattle.mr_node.specs.declared.node.LinkTurns.{LinkTurns}
 use Rattle.mr_node.specs.declared.node.NodeParts.{NodeParts}
 use Rattle.mr_node.specs.declared.node.NodeEnd.{NodeEnd}
@@ -56,10 +42,7 @@ shows_all shows entries heard s h is = subst (λ (z : Keeping _). ShowsAll shows
 
 module _ {C L M G : Type 0} (steps : C → Event → Result Reply Refusal → C → Type 0) (feed_of : C → List Entry) (first_tells : L → LinkView) (second_tells : M → LinkView) (first_at : L → LinkView → Type 0) (second_at : M → LinkView → Type 0) (closes : G → Sender → ℕ → Bool) (has_let : G → Sender → ℕ → Type 0) (gate : G) (parts : NodeParts C L M) (roles : Roles C (Letters Event) (LinkVoice L G) (LinkVoice M G)) where
   pub roles_ready : AreRolesOf gate parts roles → (first_tells parts.first_link.link).downs + 1 < 2 ^ 64 → (second_tells parts.second_link.link).downs + 1 < 2 ^ 64 → AreReady first_tells second_tells roles
-  roles_ready are first second = record {
-    first_link = voice_ready first_tells first_at closes has_let gate FirstLink parts.first_link.link parts.first_link.turns roles.first_link are.first_link first;
-    second_link = voice_ready second_tells second_at closes has_let gate SecondLink parts.second_link.link parts.second_link.turns roles.second_link are.second_link second;
-  }
+  roles_ready are first second = grind (arith, voice_ready)
 
   pub node_ran : (end : RolesEnd C (Result Reply Refusal) (Letters Event) (LinkVoice L G) (LinkVoice M G) (List (Name × MailCard)) (List Name)) (node : NodeEnd C) (first : L) (second : M) → AreRolesOf gate parts roles
       → RolesRan steps feed_of SaysLetters (Runs first_tells first_at closes has_let) (Runs second_tells second_at closes has_let) HasCards ListsUnseen roles end

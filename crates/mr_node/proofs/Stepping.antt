@@ -1,24 +1,11 @@
 -- A turn, letter by letter.
 use Rattle.std.proofs.Common.{◌≡◌, ◌+◌, ◌++◌, ℕ, Bool, true, false, List, [], ◌∷◌, Option, Result, Err, Some, None, IsSome, refl, sym, ap, subst, ◌∙◌, arith}
-use Rattle.std.proofs.lemmas.List.{append-nil}
-use Rattle.mr_wire.specs.declared.frame.Frame.{Frame}
-use Rattle.mr_link.specs.Wire.{WireView, PassesWell}
-use Rattle.mr_link.proofs.Passing.{passes_none, well_on, down_on}
-use Rattle.mr_replica.specs.declared.event.Event.{Event}
-use Rattle.mr_replica.specs.declared.event.Reply.{Reply}
-use Rattle.mr_replica.specs.declared.refusal.Refusal.{Refusal}
-use Rattle.mr_threads.specs.Exchange.{said, letters_said}
-use Rattle.mr_threads.specs.Talk.{Says, SaysInPart}
-use Rattle.mr_threads.specs.declared.talk.Talk.{Talk}
-use Rattle.mr_threads.proofs.Saying.{says_none, says-append, part_behind}
-use Rattle.mr_node.specs.Saying.{Saying, letter_frame, answer_frame, frames_read, frames_given, one_if_receive, receives}
-use Rattle.mr_node.specs.Turn.{is_done, is_reading, IsReading, IsCutShort}
-use Rattle.mr_node.specs.inner.Turn.{IsAt, progress_of, advanced, cut_by}
-use Rattle.mr_node.specs.inner.Step.{IsUnposted, Moves, ComesOf, Steps, SaysSoFar, SaysWhole, SaysPart, SaysCut, TurnGoes}
-use Rattle.mr_node.specs.declared.turn.Turn.{Turn}
-use Rattle.mr_node.specs.declared.turn.Stop.{Stop}
-use Rattle.mr_node.specs.declared.turn.Stop.TheVariants.{Refused, NotSent, NotReceived, BadFrame, Shut}
-use Rattle.mr_node.specs.declared.progress.Progress.{Progress}
+use Rattle.mr_node.proofs.Names.{BadFrame, ComesOf, Event, Frame, IsAt, IsCutShort, IsReading, IsUnposted, Moves, NotReceived, NotSent, PassesWell, Progress}
+use Rattle.mr_node.proofs.Names.{Refusal, Refused, Reply, Saying, Says, SaysCut, SaysInPart, SaysPart, SaysSoFar, SaysWhole, Shut, Stop, Talk, Turn, TurnGoes}
+use Rattle.mr_node.proofs.Names.{WireView, advanced, answer_frame, append-nil, cut_by, down_on, is_done, is_reading, letter_frame}
+use Rattle.mr_node.proofs.Names.{letters_said, one_if_receive, part_behind, passes_none, progress_of, receives, says-append, says_none, well_on}
+use Rattle.mr_threads.specs.Exchange.{said}
+use Rattle.mr_node.specs.inner.Step.{Steps}
 use Rattle.mr_node.specs.declared.next_move.Move.TheVariants as move
 use Rattle.mr_node.specs.declared.turning.Step.TheVariants as step
 use Rattle.mr_node.proofs.Talking.{orderly-append, progress-append, receives-append, well-append, well_one, stops-append}
@@ -42,14 +29,7 @@ module _ {R : Type 0} (closes : ℕ → Bool) (t : Turn) (xs : List Saying) (tal
 
   refused : (may : Bool) (letter : Event) (e : Refusal) → IsAt t xs p → Moves may t xs wire (move.Say letter) mid → posted' ≡ posted + one_if_receive letter
       → Says talk (said letter (Err e) ∷ []) talk' → p' ≡ advanced p (Err e) → wire' ≡ mid → Steps closes t xs talk wire posted (step.Stop Refused) talk' wire' posted' p'
-  refused may letter e at h count says on same = (
-    said letter (Err e) ∷ [],
-    record { before = xs; letter = letter; refusal = e; all = refl; orderly = at.orderly; undone = h.0; next = h.1 },
-    says,
-    subst (λ (w : WireView). PassesWell wire (letter_frame letter ++ []) [] w) (sym same) (subst (λ (read : List Frame). PassesWell wire read [] mid) (sym (append-nil (letter_frame letter))) h.2),
-    counts (said letter (Err e)) count,
-    further (Err e) letter at on,
-  )
+  refused may letter e at h count says on same = grind (arith, append-nil, counts, further)
 
   pub steps_unsaid : (may : Bool) (letter : Event) (answer : Result Reply Refusal) (why : Stop) → IsAt t xs p → Moves may t xs wire (move.Say letter) mid → posted' ≡ posted + one_if_receive letter
       → Says talk (said letter answer ∷ []) talk' → p' ≡ advanced p answer → ComesOf mid answer (Some why) wire' → Steps closes t xs talk wire posted (step.Stop why) talk' wire' posted' p'
@@ -75,21 +55,10 @@ module _ {R : Type 0} (closes : ℕ → Bool) (t : Turn) (xs : List Saying) (tal
   reading at undone reads = subst (λ (l : List Saying). IsReading t l) (sym (append-nil xs)) (record { orderly = at.orderly; undone = undone; reading = reads })
 
   cut_short : (why : Stop) → IsUnposted why → IsAt t xs p → is_done t xs ≡ false → is_reading t xs ≡ true → IsCutShort t (xs ++ []) why
-  cut_short Refused un at undone reads = absurd un
-  cut_short NotSent un at undone reads = absurd un
-  cut_short NotReceived un at undone reads = reading at undone reads
-  cut_short BadFrame un at undone reads = reading at undone reads
-  cut_short Shut un at undone reads = reading at undone reads
+  cut_short why un at undone reads = grind (arith, reading)
 
   pub steps_unread : (why : Stop) → IsAt t xs p → Moves (closes (posted + 1)) t xs wire (move.Stop why) wire' → Steps closes t xs talk wire posted (step.Stop why) talk wire' posted p
-  steps_unread why at h = (
-    [],
-    cut_short why h.2 at h.0 h.1,
-    says_none talk,
-    h.3,
-    omega arith,
-    at.progress ∙ ap progress_of (sym (append-nil xs)),
-  )
+  steps_unread why at h = grind (arith, cut_short, says_none, append-nil)
 
 module _ {R : Type 0} (t : Turn) (talk : Talk Event (Result Reply Refusal) R) (wire : WireView) (posted : ℕ) (p : Progress) where
   -- nothing was said so far
@@ -111,13 +80,7 @@ module _ {R : Type 0} (closes : ℕ → Bool) (t : Turn) (talk mid talk' : Talk 
   }
 
   pub so_far_done : (h : SaysSoFar t talk wire posted mid between counted p) → Steps closes t h.said mid between counted step.Done talk' wire' posted' p' → SaysWhole t talk wire posted talk' wire' posted'
-  so_far_done h k = record {
-    said = h.said;
-    whole = k.0;
-    says = subst (λ (z : Talk Event (Result Reply Refusal) R). Says talk h.said z) (sym k.1) h.says;
-    passes = subst (λ (z : WireView). PassesWell wire (frames_read h.said) (frames_given h.said) z) (sym k.2) h.passes;
-    counted = k.3 ∙ h.counted;
-  }
+  so_far_done h k = grind arith
 
   pub so_far_stop : (why : Stop) (h : SaysSoFar t talk wire posted mid between counted p) → Steps closes t h.said mid between counted (step.Stop why) talk' wire' posted' p' → SaysPart closes t why talk wire posted talk' wire' posted' p'
   so_far_stop why h k = record {
@@ -144,5 +107,4 @@ module _ {R : Type 0} (closes : ℕ → Bool) (t : Turn) (why : Stop) (talk mid 
 
 -- what a turn has said, and then a part of what is behind it
 pub goes_part : {R : Type 0} (closes : ℕ → Bool) (t : Turn) (o : Option Stop) (talk mid talk' : Talk Event (Result Reply Refusal) R) (wire wire' : WireView) (posted posted' : ℕ) (p : Progress) → TurnGoes closes t o talk wire posted mid wire' posted' p → SaysInPart mid talk' → SaysInPart talk talk'
-goes_part closes t None talk mid talk' wire wire' posted posted' p h k = part_behind talk mid talk' h.said h.says k
-goes_part closes t (Some why) talk mid talk' wire wire' posted posted' p h k = part_behind talk mid talk' h.said h.says k
+goes_part closes t o talk mid talk' wire wire' posted posted' p h k = grind (arith, part_behind)

@@ -1,21 +1,9 @@
 -- What is said behind what was said.
-use Rattle.std.proofs.Common.{◌≡◌, ◌+◌, ◌++◌, ◌==◌, ◌||◌, ℕ, Bool, true, false, cond, List, [], ◌∷◌, length, Option, IsOk, IsSome, rules, refl, sym, ap, subst, ◌∙◌, append_assoc, length-append, zero-add, arith}
-use Rattle.std.proofs.lemmas.List.{append-nil}
-use Rattle.std.proofs.lemmas.Bool.Decides.{nat_tests}
-use Rattle.std.proofs.lemmas.List.Concat.{flat_map-append}
+use Rattle.std.proofs.Common.{◌≡◌, ◌+◌, ◌++◌, ◌==◌, ◌||◌, ℕ, Bool, false, cond, List, [], ◌∷◌, length, Option, IsOk, IsSome, rules, sym, ap, subst, ◌∙◌, append_assoc, length-append, zero-add, arith}
+use Rattle.mr_node.proofs.Names.{BadFrame, Frame, IsOrderly, NotReceived, NotSent, Opened, PassesWell, Progress, Refused, Saying, SaysNext, Shut, Stop, Stops}
+use Rattle.mr_node.proofs.Names.{Turn, WireView, advanced, answer_frame, append-nil, are_over, down_on, flat_map-append, frames_given, frames_read, is_done}
+use Rattle.mr_node.proofs.Names.{is_last, letter_frame, nat_tests, opened_behind, opened_by, progress_of, receives, spoilt_on, well_on}
 use Rattle.std.proofs.lemmas.List.Folds.{list_any-append}
-use Rattle.mr_wire.specs.declared.frame.Frame.{Frame}
-use Rattle.mr_link.specs.Wire.{WireView, PassesWell}
-use Rattle.mr_link.proofs.Passing.{well_on, down_on, spoilt_on}
-use Rattle.mr_node.specs.Saying.{Saying, letter_frame, answer_frame, frames_read, frames_given, receives, is_last, are_over, opened_by, opened_behind}
-use Rattle.mr_node.specs.Turn.{SaysNext, is_done, IsOrderly}
-use Rattle.mr_node.specs.inner.Turn.{progress_of, advanced}
-use Rattle.mr_node.specs.Stop.{Stops}
-use Rattle.mr_node.specs.declared.turn.Turn.{Turn}
-use Rattle.mr_node.specs.declared.turn.Stop.{Stop}
-use Rattle.mr_node.specs.declared.turn.Stop.TheVariants.{Refused, NotSent, NotReceived, BadFrame, Shut}
-use Rattle.mr_node.specs.declared.progress.Opened.{Opened}
-use Rattle.mr_node.specs.declared.progress.Progress.{Progress}
 use Rattle.std.proofs.Common.{⊎_elim, inl, inr}
 
 -- one letter more is what the turn says next
@@ -37,8 +25,7 @@ orderly-append t before (y ∷ ys) x h undone next ok = (
 )
 
 or_false : (b : Bool) → (b || false) ≡ b
-or_false true = refl
-or_false false = refl
+or_false b = grind arith
 
 abbrev progress_with : ℕ → Opened → Bool → Progress
 progress_with n o b = record { said = n; opened = o; over = b }
@@ -50,16 +37,13 @@ some_said : (y : Saying) (ys : List Saying) → (length (y ∷ ys) == 0) ≡ fal
 some_said y ys = grind (arith, nat_tests)
 
 opened-append : (xs : List Saying) (x : Saying) → opened_behind (xs ++ x ∷ []) ≡ cond (length xs == 0) (opened_by x.answer) (opened_behind xs)
-opened-append [] x = refl
-opened-append (y ∷ ys) x = ap (λ b. cond b (opened_by x.answer) (opened_by y.answer)) (sym (some_said y ys))
+opened-append xs x = grind (arith, cond, some_said)
 
 over-append : (xs : List Saying) (x : Saying) → are_over (xs ++ x ∷ []) ≡ (are_over xs || is_last x.answer)
 over-append xs x = list_any-append (λ (z : Saying). is_last z.answer) xs (x ∷ []) ∙ ap (λ b. are_over xs || b) (or_false (is_last x.answer))
 
 pub progress-append : (xs : List Saying) (x : Saying) → progress_of (xs ++ x ∷ []) ≡ advanced (progress_of xs) x.answer
-progress-append xs x =
-    same_progress (length (xs ++ x ∷ [])) (length xs + 1) (opened_behind (xs ++ x ∷ [])) (cond (length xs == 0) (opened_by x.answer) (opened_behind xs)) (are_over (xs ++ x ∷ [])) (are_over xs || is_last x.answer)
-    (length-append xs (x ∷ [])) (opened-append xs x) (over-append xs x)
+progress-append xs x = grind (arith, same_progress, cond, length-append, opened-append, over-append)
 
 pub receives-append : (xs ys : List Saying) → receives (xs ++ ys) ≡ receives xs + receives ys
 receives-append [] ys = sym (zero-add (receives ys))
@@ -73,16 +57,11 @@ given-append xs ys = flat_map-append (λ (x : Saying). answer_frame x.answer) xs
 
 -- what passed for letters behind others
 pub well-append : (a b c : WireView) (xs ys : List Saying) → PassesWell a (frames_read xs) (frames_given xs) b → PassesWell b (frames_read ys) (frames_given ys) c → PassesWell a (frames_read (xs ++ ys)) (frames_given (xs ++ ys)) c
-well-append a b c xs ys h k =
-    subst (λ (read : List Frame). PassesWell a read (frames_given (xs ++ ys)) c) (sym (read-append xs ys))
-    (subst (λ (given : List Frame). PassesWell a (frames_read xs ++ frames_read ys) given c) (sym (given-append xs ys))
-    (well_on a b c (frames_read xs) (frames_read ys) (frames_given xs) (frames_given ys) h k))
+well-append a b c xs ys h k = grind (arith, read-append, given-append, well_on)
 
 -- and for one
 pub well_one : (a b : WireView) (x : Saying) → PassesWell a (letter_frame x.letter) (answer_frame x.answer) b → PassesWell a (frames_read (x ∷ [])) (frames_given (x ∷ [])) b
-well_one a b x h =
-    subst (λ (read : List Frame). PassesWell a read (answer_frame x.answer ++ []) b) (sym (append-nil (letter_frame x.letter)))
-    (subst (λ (given : List Frame). PassesWell a (letter_frame x.letter) given b) (sym (append-nil (answer_frame x.answer))) h)
+well_one a b x h = grind (arith, append-nil)
 
 stops_on : (may : Bool) (t : Turn) (a b c : WireView) (read more given further : List Frame) (why : Stop) → PassesWell a read given b → Stops may t b more further why c → Stops may t a (read ++ more) (given ++ further) why c
 stops_on may t a b c read more given further Refused h k = well_on a b c read more given further h k

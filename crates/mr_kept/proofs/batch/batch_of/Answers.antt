@@ -1,8 +1,6 @@
 use Rattle.std.proofs.Common.{◌∷◌, ◌∙◌, [], ap}
-use Rattle.mr_journal.specs.Format.{contents}
+use Rattle.mr_kept.proofs.Names.{IsOfEntries, batch_entries, contents, entries_of}
 use Rattle.mr_kept.proofs.EntryLemmas.{contents_append, note_more}
-use Rattle.mr_kept.specs.Entries.{batch_entries, entries_of}
-use Rattle.mr_kept.specs.inner.Entries.{IsOfEntries}
 use Rattle.mr_kept.proofs.RoomLemmas.{err_by, events_fault, note_fault}
 use Rattle.mr_kept.proofs.batch.batch_of.Goals as goal
 

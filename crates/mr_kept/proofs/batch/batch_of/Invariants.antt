@@ -1,6 +1,5 @@
 use Rattle.std.proofs.Common.{◌≡◌, take}
-use Rattle.mr_journal.specs.Format.{contents}
-use Rattle.mr_kept.specs.Entries.{AreSpelled, batch_entries, issued_after}
+use Rattle.mr_kept.proofs.Names.{AreSpelled, batch_entries, contents, issued_after}
 use Rattle.mr_kept.proofs.batch.batch_of.Given as goal
 
 abbrev pub invariant-loop-note : goal.invariant-loop-note

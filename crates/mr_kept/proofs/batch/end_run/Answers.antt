@@ -1,9 +1,7 @@
 use Rattle.std.proofs.Common.{◌≡◌, ◌∷◌, ◌∙◌, [], ap}
-use Rattle.mr_journal.specs.Format.{contents}
+use Rattle.mr_kept.proofs.Names.{KeptFault, OutOfMemory, contents}
 use Rattle.mr_kept.proofs.EntryLemmas.{contents_append}
 use Rattle.mr_kept.proofs.RunLemmas.{none_put, run_put}
-use Rattle.mr_kept.specs.declared.fault.KeptFault.{KeptFault}
-use Rattle.mr_kept.specs.declared.fault.KeptFault.TheVariants.{OutOfMemory}
 use Rattle.mr_kept.proofs.RoomLemmas.{err_by, run_fault}
 use Rattle.mr_kept.proofs.batch.end_run.Goals as goal
 

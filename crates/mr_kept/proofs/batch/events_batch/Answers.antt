@@ -1,7 +1,5 @@
-use Rattle.mr_journal.specs.Format.{contents}
+use Rattle.mr_kept.proofs.Names.{IsOfEntries, contents, entries_of}
 use Rattle.mr_kept.proofs.RunLemmas.{next_so_far, whole_so_far}
-use Rattle.mr_kept.specs.Entries.{entries_of}
-use Rattle.mr_kept.specs.inner.Entries.{IsOfEntries}
 use Rattle.mr_kept.proofs.RoomLemmas.{err_by, event_over, of_memory}
 use Rattle.mr_kept.proofs.batch.events_batch.Goals as goal
 

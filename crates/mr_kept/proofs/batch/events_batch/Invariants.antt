@@ -1,6 +1,5 @@
 use Rattle.std.proofs.Common.{take}
-use Rattle.mr_journal.specs.Format.{contents}
-use Rattle.mr_kept.specs.inner.Entries.{AreSoFar}
+use Rattle.mr_kept.proofs.Names.{AreSoFar, contents}
 use Rattle.mr_kept.proofs.batch.events_batch.Given as goal
 
 abbrev pub invariant-loop-event : goal.invariant-loop-event

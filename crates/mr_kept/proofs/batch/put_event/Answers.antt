@@ -1,9 +1,7 @@
 use Rattle.std.proofs.Common.{◌≡◌, ◌≤◌, ◌^◌, ◌∷◌, ◌∙◌, [], ℕ, ap, subst}
-use Rattle.mr_journal.specs.Format.{contents}
+use Rattle.mr_kept.proofs.Names.{IsOfEvent, contents, counted}
 use Rattle.mr_kept.proofs.EntryLemmas.{contents_append}
 use Rattle.mr_kept.proofs.RunLemmas.{event_more}
-use Rattle.mr_kept.specs.Entries.{counted}
-use Rattle.mr_kept.specs.inner.Entries.{IsOfEvent}
 use Rattle.mr_kept.proofs.RoomLemmas.{count_over, err_by, event_fault, event_of_memory}
 use Rattle.mr_kept.proofs.batch.put_event.Goals as goal
 

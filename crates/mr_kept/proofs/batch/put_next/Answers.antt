@@ -1,8 +1,6 @@
 use Rattle.std.proofs.Common.{arith, sym}
-use Rattle.mr_journal.specs.Format.{contents}
+use Rattle.mr_kept.proofs.Names.{IsOfEvent, Next, contents}
 use Rattle.mr_kept.proofs.RunLemmas.{run_changes, run_grows}
-use Rattle.mr_kept.specs.inner.Entries.{IsOfEvent}
-use Rattle.mr_replica.specs.declared.event.Event.TheVariants.{Next}
 use Rattle.mr_kept.proofs.RoomLemmas.{err_by, event_of_memory}
 use Rattle.mr_kept.proofs.batch.put_next.Goals as goal
 

@@ -1,9 +1,7 @@
 use Rattle.std.proofs.Common.{inl, inr, ℕ, ◌+◌, List, ap, arith, subst}
-use Rattle.std.proofs.lemmas.Result.{err_from_is_err_and}
-use Rattle.mr_entry.specs.Grammar.{Spells}
+use Rattle.mr_kept.proofs.Names.{IsUnread, Spells, err_from_is_err_and}
 use Rattle.mr_kept.proofs.EntryLemmas.{gathered_next}
 use Rattle.mr_kept.proofs.RefusingLemmas.{stops_at}
-use Rattle.mr_kept.specs.Refusing.{IsUnread}
 use Rattle.mr_kept.proofs.gather.gather.Goals as goal
 
 pub take_entry-requires : goal.take_entry-requires

@@ -1,6 +1,5 @@
 use Rattle.std.proofs.Common.{◌≡◌, ◌++◌}
-use Rattle.std.specs.Prelude.{replicate}
-use Rattle.mr_replica.specs.declared.event.Event.TheVariants.{Next}
+use Rattle.mr_kept.proofs.Names.{Next, replicate}
 use Rattle.mr_kept.proofs.gather.put_run.Given as goal
 
 abbrev pub invariant-loop : goal.invariant-loop

@@ -1,7 +1,5 @@
 use Rattle.std.proofs.Common.{◌≡◌, subst, sym}
-use Rattle.mr_entry.specs.Events.{events_of_entry}
-use Rattle.mr_entry.specs.declared.entry.Entry.{Entry}
-use Rattle.mr_kept.specs.Entries.{issued_after}
+use Rattle.mr_kept.proofs.Names.{Entry, events_of_entry, issued_after}
 use Rattle.mr_kept.proofs.EntryLemmas.{run_issues}
 use Rattle.mr_kept.proofs.gather.take_entry.Goals as goal
 

@@ -1,13 +1,6 @@
 use Rattle.std.proofs.Common.{◌≡◌, ◌∙◌, ◌∷◌, [], Result, ap, subst}
-use Rattle.std.proofs.lemmas.Result.{IfOk-weaker}
-use Rattle.mr_link.specs.Wire.{wire_of}
-use Rattle.mr_replica.specs.declared.event.Reply.{Reply}
-use Rattle.mr_replica.specs.declared.refusal.Refusal.{Refusal}
+use Rattle.mr_node.proofs.Names.{ComesOf, IfOk-weaker, Refusal, Reply, SaysInPart, advanced, holds_on_err, says_in_part, wire_of}
 use Rattle.mr_threads.specs.Exchange.{said}
-use Rattle.mr_threads.specs.Talk.{SaysInPart}
-use Rattle.mr_threads.proofs.Saying.{holds_on_err, says_in_part}
-use Rattle.mr_node.specs.inner.Turn.{advanced}
-use Rattle.mr_node.specs.inner.Step.{ComesOf}
 use Rattle.mr_node.proofs.exchange.exchange.Goals as goal
 
 pub returns-clause-so : goal.returns-clause-so

@@ -1,5 +1,4 @@
-use Rattle.mr_link.specs.Wire.{wire_of}
-use Rattle.mr_node.specs.Saying.{reply_frame}
+use Rattle.mr_node.proofs.Names.{reply_frame, wire_of}
 use Rattle.mr_node.proofs.Sending.{sends_no_bad_frame}
 use Rattle.mr_node.proofs.exchange.send_answer.Goals as goal
 

@@ -1,6 +1,5 @@
 use Rattle.std.proofs.Common.{ap}
-use Rattle.mr_link.specs.Wire.{wire_of}
-use Rattle.mr_node.specs.Saying.{reply_frame}
+use Rattle.mr_node.proofs.Names.{reply_frame, wire_of}
 use Rattle.mr_node.proofs.Sending.{nothing_to_send}
 use Rattle.mr_node.proofs.exchange.send_reply.Goals as goal
 

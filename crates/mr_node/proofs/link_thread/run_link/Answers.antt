@@ -1,7 +1,6 @@
 use Rattle.std.proofs.Common.{Bool, subst, ap, ◌∙◌}
 use Rattle.std.specs.Prelude.{IsTrue}
-use Rattle.mr_lane.specs.declared.note.Sender.{Sender}
-use Rattle.mr_node.specs.inner.Voice.{IsVoiceOf}
+use Rattle.mr_node.proofs.Names.{IsVoiceOf, Sender}
 use Rattle.mr_node.proofs.Linking.{said_turns, said_in_turn, voice_last}
 use Rattle.mr_node.proofs.link_thread.run_link.Goals as goal
 

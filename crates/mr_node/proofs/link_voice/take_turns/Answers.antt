@@ -1,16 +1,9 @@
 use Rattle.std.proofs.Common.{◌∙◌, ◌+◌, ℕ, Bool, Bor, List, Option, take, drop, ap, arith, refl, rules, subst, sym}
-use Rattle.mr_lane.specs.declared.note.Sender.{Sender}
-use Rattle.mr_link.specs.Wire.{wire_of}
-use Rattle.mr_node.specs.inner.Step.{TurnRan, SaysCut}
+use Rattle.mr_node.proofs.Names.{SaysCut, SaysInPart, Sender, Stop, Turn, TurnRan, holds_on_err, part_behind, take_all, wire_of}
 use Rattle.mr_node.proofs.Linking.{SaysTurns, turns_none, turns_more, turns_stop, turns_through}
-use Rattle.mr_node.specs.declared.turn.Turn.{Turn}
-use Rattle.mr_node.specs.declared.turn.Stop.{Stop}
 use Rattle.mr_node.proofs.Talking.{some_left}
 use Rattle.mr_threads.proofs.Serving.{take-more, take-split}
-use Rattle.mr_threads.specs.Talk.{SaysInPart}
-use Rattle.mr_threads.proofs.Saying.{part_behind, holds_on_err}
 use Rattle.mr_node.proofs.Letting.{let_none, let_same, let_all}
-use Rattle.std.proofs.lemmas.List.{take_all}
 use Rattle.mr_node.proofs.link_voice.take_turns.Goals as goal
 
 pub loop-turn-init : goal.loop-turn-init

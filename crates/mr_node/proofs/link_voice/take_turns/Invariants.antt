@@ -1,7 +1,5 @@
 use Rattle.std.proofs.Common.{◌≡◌, take}
-use Rattle.mr_link.specs.Wire.{wire_of}
-use Rattle.mr_threads.specs.Talk.{SameLanes}
-use Rattle.mr_node.specs.Saying.{HasLet}
+use Rattle.mr_node.proofs.Names.{HasLet, SameLanes, wire_of}
 use Rattle.mr_node.proofs.Linking.{SaysTurns}
 use Rattle.mr_node.proofs.link_voice.take_turns.Given as goal
 

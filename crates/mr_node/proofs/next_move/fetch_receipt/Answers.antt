@@ -1,7 +1,6 @@
 use Rattle.mr_node.proofs.Moving.{reads_none_too_long}
 use Rattle.std.proofs.Common.{[], ◌∷◌, refl, subst}
-use Rattle.mr_wire.specs.declared.frame.Frame.{Frame}
-use Rattle.mr_link.specs.Wire.{wire_of, PassesWell}
+use Rattle.mr_node.proofs.Names.{Frame, PassesWell, wire_of}
 use Rattle.mr_node.proofs.next_move.fetch_receipt.Goals as goal
 
 pub returns-in-Receipt : goal.returns-in-Receipt

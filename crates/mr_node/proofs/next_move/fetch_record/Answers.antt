@@ -1,9 +1,6 @@
 use Rattle.mr_node.proofs.Moving.{reads_none_too_long}
-use Rattle.mr_link.specs.Wire.{wire_of}
+use Rattle.mr_node.proofs.Names.{Halt, LetsMove, Move, wire_of}
 use Rattle.std.proofs.Common.{◌+◌, IfOk, subst, sym, Result}
-use Rattle.mr_threads.specs.declared.talk.Halt.{Halt}
-use Rattle.mr_node.specs.inner.Step.{LetsMove}
-use Rattle.mr_node.specs.declared.next_move.Move.{Move}
 use Rattle.mr_node.proofs.Letting.{unread_let}
 use Rattle.mr_node.proofs.next_move.fetch_record.Goals as goal
 

@@ -1,8 +1,6 @@
 use Rattle.std.proofs.Common.{◌≡◌, ◌+◌, ◌<◌, false, List, length, arith, rules, tests, Some, refl, subst}
 use Rattle.std.proofs.lemmas.Option.{slice_get_read}
-use Rattle.mr_version.specs.Name.{Name}
-use Rattle.std.specs.List.{slice_get}
-use Rattle.mr_link.specs.Wire.{wire_of}
+use Rattle.mr_node.proofs.Names.{Name, slice_get, wire_of}
 use Rattle.mr_node.specs.declared.turn.Turn.TheVariants as turn
 use Rattle.mr_node.proofs.Moving.{serve_so, redeem_so, grant_so, reads_so}
 use Rattle.mr_node.proofs.Letting.{serve_let, redeem_let}

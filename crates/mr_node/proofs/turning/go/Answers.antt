@@ -1,10 +1,7 @@
 use Rattle.std.proofs.Common.{◌∙◌, ℕ, Bool, Bor, ap, arith, refl, rules, subst, sym}
-use Rattle.mr_lane.specs.declared.note.Sender.{Sender}
-use Rattle.mr_link.specs.Wire.{wire_of}
-use Rattle.mr_node.specs.inner.Step.{Steps, SaysPart}
+use Rattle.mr_node.proofs.Names.{SaysInPart, SaysPart, Sender, holds_on_err, part_behind, wire_of}
+use Rattle.mr_node.specs.inner.Step.{Steps}
 use Rattle.mr_node.specs.declared.turning.Step.{Step}
-use Rattle.mr_threads.specs.Talk.{SaysInPart}
-use Rattle.mr_threads.proofs.Saying.{part_behind, holds_on_err}
 use Rattle.mr_node.proofs.Letting.{let_same}
 use Rattle.mr_node.proofs.Talking.{some_left}
 use Rattle.mr_node.proofs.Stepping.{so_far_none, so_far_more, so_far_done, so_far_stop}

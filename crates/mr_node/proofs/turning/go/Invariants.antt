@@ -1,8 +1,5 @@
 use Rattle.std.proofs.Common.{◌≡◌}
-use Rattle.mr_link.specs.Wire.{wire_of}
-use Rattle.mr_threads.specs.Talk.{SameLanes}
-use Rattle.mr_node.specs.Saying.{HasLet}
-use Rattle.mr_node.specs.inner.Step.{SaysSoFar}
+use Rattle.mr_node.proofs.Names.{HasLet, SameLanes, SaysSoFar, wire_of}
 use Rattle.mr_node.proofs.turning.go.Given as goal
 
 abbrev pub invariant-loop : goal.invariant-loop

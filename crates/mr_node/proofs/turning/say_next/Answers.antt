@@ -1,11 +1,6 @@
 use Rattle.std.proofs.Common.{◌+◌, ◌∙◌, ◌∷◌, [], Option, ap, arith, refl, subst}
 use Rattle.mr_threads.specs.Exchange.{said}
-use Rattle.mr_threads.specs.Talk.{SaysInPart}
-use Rattle.mr_threads.proofs.Saying.{holds_on_err, posts_none, says_in_part}
-use Rattle.mr_link.specs.Wire.{wire_of}
-use Rattle.mr_node.specs.inner.Step.{ReadsLetter, LetsMove, Moves, ComesOf}
-use Rattle.mr_node.specs.declared.turn.Stop.{Stop}
-use Rattle.mr_node.specs.declared.next_move.Move.{Move}
+use Rattle.mr_node.proofs.Names.{ComesOf, LetsMove, Move, Moves, ReadsLetter, SaysInPart, Stop, holds_on_err, posts_none, says_in_part, wire_of}
 use Rattle.mr_node.proofs.Letting.{let_more}
 use Rattle.mr_node.proofs.Talking.{some_left}
 use Rattle.mr_node.proofs.Stepping.{steps_more, steps_unsaid, steps_unread}

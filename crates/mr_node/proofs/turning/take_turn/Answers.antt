@@ -1,6 +1,4 @@
-use Rattle.mr_link.specs.Wire.{wire_of}
-use Rattle.mr_threads.specs.Talk.{SaysInPart}
-use Rattle.mr_threads.proofs.Saying.{holds_on_err}
+use Rattle.mr_node.proofs.Names.{SaysInPart, holds_on_err, wire_of}
 use Rattle.mr_node.proofs.Stepping.{goes_part}
 use Rattle.mr_node.proofs.turning.take_turn.Goals as goal
 

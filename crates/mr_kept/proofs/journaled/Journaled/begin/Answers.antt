@@ -1,11 +1,5 @@
 use Rattle.std.proofs.Common.{◌≡◌, ◌∙◌, ◌++◌, inl, ℕ, List, [], length, ap, subst, sym, Result, Err}
-use Rattle.std.specs.Prelude.{IsTrue}
-use Rattle.mr_journal.specs.Format.{Stands, contents}
-use Rattle.mr_journal.specs.Journal.{Keeps}
-use Rattle.mr_journal.proofs.Moments.{started}
-use Rattle.mr_entry.specs.Head.{HeadParts}
-use Rattle.mr_kept.specs.Beginning.{HasParts}
-use Rattle.mr_journal.specs.declared.fault.JournalFault.{JournalFault}
+use Rattle.mr_kept.proofs.Names.{HasParts, HeadParts, IsTrue, JournalFault, Keeps, Stands, contents, started}
 use Rattle.mr_kept.proofs.BeginLemmas.{device_failed, no_journal_fault, of_commit, of_open, of_setup, some_batch, some_texts}
 use Rattle.mr_kept.proofs.OpenLemmas.{empty_texts, kept_begun, moments_begun, moments_head, none_waits}
 use Rattle.mr_kept.proofs.journaled.Journaled.begin.Goals as goal

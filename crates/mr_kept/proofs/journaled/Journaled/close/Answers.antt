@@ -1,8 +1,4 @@
-use Rattle.mr_journal.specs.Journal.{device_of}
-use Rattle.mr_journal.proofs.Moments.{started, widened}
-use Rattle.mr_kept.specs.Kept.{head_of, journal_of}
-use Rattle.mr_kept.specs.Entries.{notes_of}
-use Rattle.mr_kept.specs.Whole.{HasLog}
+use Rattle.mr_kept.proofs.Names.{HasLog, device_of, head_of, journal_of, notes_of, started, widened}
 use Rattle.mr_kept.proofs.LeftLemmas.{head_on, left_now, same_notes}
 use Rattle.mr_kept.proofs.OpenLemmas.{closed_in, closed_on, cut_now, kept_mid, moments_close, no_note_waits}
 use Rattle.mr_kept.proofs.journaled.Journaled.close.Goals as goal

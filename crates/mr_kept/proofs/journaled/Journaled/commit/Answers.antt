@@ -1,17 +1,7 @@
 use Rattle.std.proofs.Common.{◌≡◌, ◌⊎◌, ◌++◌, inl, ap, refl, sym, ◌∙◌, length, Result, Ok, Err}
-use Rattle.std.specs.Prelude.{IsTrue, map}
-use Rattle.mr_journal.specs.Format.{contents}
-use Rattle.mr_journal.specs.Journal.{device_of, has_failed}
-use Rattle.mr_entry.specs.Spelling.{entry_bytes}
-use Rattle.mr_kept.specs.Entries.{issued_after, notes_of}
-use Rattle.mr_kept.specs.Kept.{head_of, issued_of, journal_of, notes_waiting}
-use Rattle.mr_kept.specs.Whole.{HasLog}
-use Rattle.mr_journal.proofs.Moments.{started, widened}
+use Rattle.mr_kept.proofs.Names.{Failed, HasLog, IsTrue, IsUncommitted, JournalFault, KeptFault, contents, device_of, entry_bytes, has_failed, head_of}
+use Rattle.mr_kept.proofs.Names.{issued_after, issued_of, journal_of, map, notes_of, notes_waiting, started, widened}
 use Rattle.mr_kept.proofs.LeftLemmas.{left_by, left_now}
-use Rattle.mr_journal.specs.declared.fault.JournalFault.{JournalFault}
-use Rattle.mr_kept.specs.declared.fault.KeptFault.{KeptFault}
-use Rattle.mr_kept.specs.declared.fault.KeptFault.TheVariants.{Failed}
-use Rattle.mr_kept.specs.Commit.{IsUncommitted}
 use Rattle.mr_kept.proofs.KeptLemmas.{kept_after, moments_all, spelled_waits, waiting_is, waits_are}
 use Rattle.mr_kept.proofs.RoomLemmas.{batch_fault, err_by, failed_is, has_room, journal_fault, never_failed}
 use Rattle.mr_kept.proofs.journaled.Journaled.commit.Goals as goal

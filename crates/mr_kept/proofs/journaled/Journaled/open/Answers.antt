@@ -1,6 +1,5 @@
 use Rattle.std.proofs.Common.{inl, inr, refl, subst, sym}
-use Rattle.mr_entry.specs.Head.{HeadParts}
-use Rattle.mr_kept.specs.Opening.{IsOfPlace}
+use Rattle.mr_kept.proofs.Names.{HeadParts, IsOfPlace}
 use Rattle.mr_kept.proofs.OpenLemmas.{moments_alike, moments_open, reopens}
 use Rattle.mr_kept.proofs.WholeLemmas.{comes_back, has_alike, has_open, opens}
 use Rattle.mr_kept.proofs.journaled.Journaled.open.Goals as goal

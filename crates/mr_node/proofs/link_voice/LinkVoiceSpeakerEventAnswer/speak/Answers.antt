@@ -1,7 +1,5 @@
 use Rattle.std.proofs.Common.{List, inl, refl, subst}
-use Rattle.mr_link.specs.Wire.{wire_of}
-use Rattle.mr_node.specs.Stop.{LinkRan}
-use Rattle.mr_node.specs.declared.turn.Turn.{Turn}
+use Rattle.mr_node.proofs.Names.{LinkRan, Turn, wire_of}
 use Rattle.mr_node.proofs.link_voice.LinkVoiceSpeakerEventAnswer.speak.Goals as goal
 
 pub returns-clause-said : goal.returns-clause-said
