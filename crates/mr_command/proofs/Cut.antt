@@ -1,8 +1,7 @@
 -- where a subject ends and a body begins
 use Rattle.std.proofs.Common.{◌≡◌, ◌≢◌, ℕ, zero, suc, ◌<◌, ◌≤◌, Bool, true, false, nat_eq, List, [], ◌∷◌, ◌++◌, length, take, drop, refl, ap, ◌∙◌, arith}
-use Rattle.std.specs.List.{starts_with}
+use Rattle.mr_command.proofs.Names.{Decides-eqb, starts_with}
 use Rattle.std.specs.Str.Pattern.{LacksTextAt}
-use Rattle.std.proofs.lemmas.Bool.Decides.{Decides-eqb}
 use Rattle.std.proofs.lemmas.Slice.Eq.{starts_is}
 use Rattle.mr_command.specs.Message.{mark, subject_of, body_of}
 

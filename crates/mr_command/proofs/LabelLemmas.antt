@@ -1,13 +1,12 @@
 -- the different ones of the parts of a word, one after the other
 use Rattle.std.proofs.Common.{◌≡◌, ℕ, ◌<◌, ◌≤◌, ◌∙◌, ◌||◌, Bool, true, false, List, [], ◌∷◌, ◌++◌, length, map, Bor, ap, append-nil, append_assoc, refl, sym, arith}
-use Rattle.std.specs.List.{IsDistinct, list_any}
+use Rattle.mr_command.proofs.Names.{different_labels, has_label, length-append, list_any, text_eq}
+use Rattle.std.specs.List.{IsDistinct}
 use Rattle.std.specs.Cmp.Lexicographic.{nat_list_eq_equiv}
-use Rattle.std.proofs.lemmas.List.{length-append}
 use Rattle.std.proofs.lemmas.List.Folds.{list_any-append}
 use Rattle.std.proofs.lemmas.Map.Keys.{IsDistinct-push}
 use Rattle.std.proofs.lemmas.Map.Made.{length-from_keys}
 use Rattle.std.proofs.lemmas.Map.Steps.{list_any_congr}
-use Rattle.mr_mail.specs.Label.{text_eq, has_label, different_labels}
 
 -- the texts that were seen are those of the parts before those that are left, each once
 pub record SeenSoFar (all left seen : List (List ℕ)) : Type 0 where

@@ -1,3 +1,4 @@
+pub mod Names
 pub mod Cut
 pub mod LabelLemmas
 pub mod PieceLemmas

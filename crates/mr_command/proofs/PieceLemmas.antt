@@ -1,17 +1,9 @@
 -- the parts of a word, one after the other
 use Rattle.std.proofs.Common.{◌≡◌, ◌≢◌, ◌==◌, ℕ, ◌<◌, ◌∙◌, List, [], ◌∷◌, ◌++◌, length, map, ap, append-nil, append_assoc, All, Bool, true, false, Option, Some, None, Result, Ok, Err, IfOk, Bor, refl, sym, arith}
-use Rattle.std.specs.Option.{MatchOption}
-use Rattle.std.specs.List.{position_or_len}
-use Rattle.std.proofs.lemmas.List.{map-append}
+use Rattle.mr_command.proofs.Names.{IsSplitOnceResult, IsVersion, IsVersionName, MatchOption, Name, fails_before_first, false≢true, is_err, map-append}
+use Rattle.mr_command.proofs.Names.{name_text, parts_of, position_or_len, slice_split_first, slice_split_none, split_once_first}
 use Rattle.std.proofs.lemmas.List.Elements.{All-nil, All-push, All-head, All-tail}
-use Rattle.std.proofs.lemmas.List.Sums.{fails_before_first}
-use Rattle.std.proofs.lemmas.List.Splits.{slice_split_none, slice_split_first}
-use Rattle.std.proofs.lemmas.Str.Pattern.{IsSplitOnceResult, split_once_first}
-use Rattle.std.specs.Result.{is_err}
-use Rattle.std.proofs.lemmas.Bool.{false≢true}
-use Rattle.mr_version.specs.Name.{Name, IsVersion, name_text}
 use Rattle.mr_version.specs.declared.fault.VersionFault.{VersionFault}
-use Rattle.mr_command.specs.List.{parts_of, IsVersionName}
 
 -- a text with no separator is its one part
 pub parts-whole : (separator : ℕ) (text : List ℕ) → position_or_len (λ b. b == separator) text ≡ length text → parts_of separator text ≡ text ∷ []

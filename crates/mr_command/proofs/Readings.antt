@@ -1,12 +1,7 @@
 -- readings, step by step
 use Rattle.std.proofs.Common.{◌≡◌, ℕ, Bool, true, false, List, Result, Ok, Err, MatchResult, Bor}
-use Rattle.std.specs.Result.{IsErrAnd, IsOkAnd}
+use Rattle.mr_command.proofs.Names.{Both, IsErrAnd, IsOkAnd, LineFault, Reading, Scene, choose, ends, goes_on, reads_two}
 use Rattle.std.proofs.lemmas.Result.{err_from_is_err_and}
-use Rattle.mr_command.specs.declared.fault.LineFault.{LineFault}
-use Rattle.mr_command.specs.Reading.{Reading, choose, Both}
-use Rattle.mr_command.specs.Reading.Both.{goes_on, ends}
-use Rattle.mr_command.specs.Scene.{Scene}
-use Rattle.mr_command.specs.Shape.{reads_two}
 
 -- what is chosen where the test holds, and where it does not
 pub choose-true : {X : Type 0} (b : Bool) (first second : Reading X) (result : Result X LineFault) → b ≡ true → first result → choose b first second result

@@ -1,9 +1,10 @@
 -- what a command that was read names is there
 use Rattle.std.proofs.Common.{◌≡◌, ◌≤◌, ◌&&◌, ℕ, Bool, true, false, not, nat_le, List, [], ◌∷◌, Result, Ok, Err, IsTrue, IsFalse, IfOk, codes, refl, arith}
-use Rattle.std.proofs.lemmas.Bool.Decides.{nat_tests}
+use Rattle.mr_command.proofs.Names.{Asks, Both, LineFault, Pool, Reading, Receipts, Records, Scene, choose, ends, fails, gives, gives_if, goes_on, happens}
+use Rattle.mr_command.proofs.Names.{nat_tests, reads_alone, reads_command, reads_event, reads_named, reads_question, reads_sync, reads_two, reads_words}
+use Rattle.mr_command.proofs.Names.{text_eq, words, ◌andthen◌}
 use Rattle.mr_feed.specs.declared.port.TheConstants.{MAX_CAPACITY}
 use Rattle.mr_replica.specs.declared.replica.TheConstants.{MAX_EVENTS}
-use Rattle.mr_mail.specs.Label.{text_eq}
 use Rattle.mr_mail.specs.Mail.{Mail}
 use Rattle.mr_model.specs.History.{◌does◌}
 use Rattle.mr_model.specs.declared.event.Act.{Act}
@@ -15,22 +16,13 @@ use Rattle.mr_command.specs.declared.command.Command.TheVariants.{AddReplica, Ha
 use Rattle.mr_command.specs.declared.command.Sync.{Sync as Session}
 use Rattle.mr_command.specs.declared.command.Question.{Question}
 use Rattle.mr_command.specs.declared.command.Question.TheVariants.{Heads, PushOuts, Conflicts, Know, Feed, Log, Show, Bytes, Index, Unseen}
-use Rattle.mr_command.specs.declared.fault.LineFault.{LineFault}
 use Rattle.mr_command.specs.declared.fault.LineFault.TheVariants.{LateReplica, UnknownCommand}
-use Rattle.mr_command.specs.declared.pool.Pool.{Pool}
-use Rattle.mr_command.specs.declared.pool.Pool.TheVariants.{Asks, Records, Receipts}
-use Rattle.mr_command.specs.Command.{happens, reads_sync, reads_question, reads_event, reads_named, reads_words, reads_command}
 use Rattle.mr_command.specs.Event.{reads_create, reads_edit, reads_part}
 use Rattle.mr_command.specs.Named.{reads_replica, reads_new_id, reads_frame}
 use Rattle.mr_command.specs.Number.{reads_up_to}
 use Rattle.mr_command.specs.Opening.{SpecParts, reads_spec, reads_opening}
 use Rattle.mr_command.specs.Question.{reads_text, reads_bytes, reads_index}
-use Rattle.mr_command.specs.Reading.{Reading, gives, fails, gives_if, choose, Both, ◌andthen◌}
-use Rattle.mr_command.specs.Reading.Both.{goes_on, ends}
-use Rattle.mr_command.specs.Scene.{Scene}
-use Rattle.mr_command.specs.Shape.{reads_alone, reads_two}
 use Rattle.mr_command.specs.There.{IsNew, MayHappen, has_frame_of, has_subject_of, IsThere}
-use Rattle.mr_command.specs.Words.{words}
 
 -- what was read in two steps
 steps : {X Y : Type 0} {First : Reading X} {Next : X → Reading Y} {r : Result Y LineFault} (y : Y) → r ≡ Ok y → Both First Next r → (x : X) × First (Ok x) × Next x (Ok y)

@@ -1,7 +1,7 @@
 //! Lines that let an event happen.
 ghost use Rattle.mr_command.specs.Event.{reads_create, reads_edit, reads_part};
 
-use crate::LineFault;
+use crate::Read;
 use crate::lists::read_bases;
 use crate::message::MessageWords;
 use crate::named::{read_frame, read_replica};
@@ -13,11 +13,7 @@ use mr_world::{Act, Event};
 use std::alloc::Global;
 
 /// `R LABELS FLAGS DATE FROM SUBJECT`
-pub(crate) fn read_create<R: Roster>(
-    alloc: Global,
-    mut words: Words,
-    roster: &R,
-) -> Result<Event, LineFault>
+pub(crate) fn read_create<R: Roster>(alloc: Global, mut words: Words, roster: &R) -> Read<Event>
     ensures { reads_create (R.scene roster.now) words.entry result }
 {
     let replica = words.next_word()?;
@@ -28,11 +24,7 @@ pub(crate) fn read_create<R: Roster>(
 }
 
 /// `R BASES LABELS FLAGS DATE FROM SUBJECT`
-pub(crate) fn read_edit<R: Roster>(
-    alloc: Global,
-    mut words: Words,
-    roster: &R,
-) -> Result<Event, LineFault>
+pub(crate) fn read_edit<R: Roster>(alloc: Global, mut words: Words, roster: &R) -> Read<Event>
     ensures { reads_edit (R.scene roster.now) words.entry result }
 {
     let replica = words.next_word()?;
@@ -45,7 +37,7 @@ pub(crate) fn read_edit<R: Roster>(
 }
 
 /// `R Pn BYTES`
-pub(crate) fn read_part<R: Roster>(words: Words, roster: &R) -> Result<Event, LineFault>
+pub(crate) fn read_part<R: Roster>(words: Words, roster: &R) -> Read<Event>
     ensures { reads_part (R.scene roster.now) words.entry result }
 {
     let (replica, record, bytes) = words.three()?;

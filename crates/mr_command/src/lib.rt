@@ -35,3 +35,6 @@ pub use command::{Command, Question, Sync};
 pub use fault::LineFault;
 pub use pool::Pool;
 pub use roster::Roster;
+
+/// What is read of a line, or the line's fault.
+type Read<T> = Result<T, LineFault>;

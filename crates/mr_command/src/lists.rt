@@ -6,8 +6,8 @@ ghost use Rattle.mr_mail.specs.declared.label.TheConstants.{MAX_LABELS};
 ghost use Rattle.mr_command.specs.List.{pieces_of, NamesFlags, SpellsVersion, JoinsVersions};
 ghost use Rattle.mr_command.specs.Reading.{names, names_in_memory, NamesSome, NamesNone};
 
-use crate::LineFault;
 use crate::pieces::Pieces;
+use crate::{LineFault, Read};
 use arrayvec::ArrayVec;
 use mr_mail::{Flag, Flags, Label, MAX_LABELS};
 use mr_replica::Bases;
@@ -16,7 +16,7 @@ use std::alloc::{AllocError, Global};
 
 /// The flags whose names the word joins by `+`, in any order and more than once each. `BadFlags`
 /// where a name is no flag's.
-pub(crate) fn read_flags(word: &str) -> Result<Flags, LineFault>
+pub(crate) fn read_flags(word: &str) -> Read<Flags>
     ensures { names NamesFlags LineFault.BadFlags word.now result }
 {
     let mut set = Flags::empty();
@@ -74,7 +74,7 @@ pub(crate) fn read_labels(alloc: Global, word: &str) -> Result<Vec<String>, Allo
 }
 
 /// The version that the word is. `BadVersion` where it is none.
-pub(crate) fn read_version(word: &str) -> Result<Version, LineFault>
+pub(crate) fn read_version(word: &str) -> Read<Version>
     ensures { names SpellsVersion LineFault.BadVersion word.now result }
 {
     match Version::read(word) {
@@ -85,7 +85,7 @@ pub(crate) fn read_version(word: &str) -> Result<Version, LineFault>
 
 /// The versions whose texts the word joins by `,`. `BadVersion` where a text is no version's, and
 /// `OutOfMemory` last.
-pub(crate) fn read_bases(alloc: Global, word: &str) -> Result<Bases, LineFault>
+pub(crate) fn read_bases(alloc: Global, word: &str) -> Read<Bases>
     ensures { names_in_memory JoinsVersions LineFault.BadVersion word.now result }
 {
     if !are_versions(word) {
@@ -110,7 +110,7 @@ fn are_versions(word: &str) -> bool
 }
 
 /// The versions whose texts the word joins by `,`, as they stand there.
-fn versions_named(alloc: Global, word: &str) -> Result<Vec<Version>, LineFault>
+fn versions_named(alloc: Global, word: &str) -> Read<Vec<Version>>
     ensures joined { IfOk result (λ versions. JoinsVersions word.now versions.items) }
     ensures fault { IfErr result (λ fault. (fault ≡ LineFault.OutOfMemory)
         ⊎ ((fault ≡ LineFault.BadVersion) × NamesNone JoinsVersions word.now)) }

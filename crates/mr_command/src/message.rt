@@ -6,9 +6,9 @@ ghost use Rattle.mr_command.specs.List.{pieces_of};
 ghost use Rattle.mr_command.specs.Message.{subject_of, body_of, takes_parts, reads_message, makes};
 ghost use Rattle.mr_command.specs.Reading.{names};
 
-use crate::LineFault;
 use crate::lists::{are_labels, are_too_many_labels, read_flags, read_labels};
 use crate::words::Words;
+use crate::{LineFault, Read};
 use mr_mail::{
     Day, Flags, MAX_BODY_BYTES, MAX_FROM_BYTES, MAX_SUBJECT_BYTES, Message, MessageFault,
 };
@@ -38,7 +38,7 @@ impl<'a> Model for MessageWords<'a> {
 
 impl<'a> MessageWords<'a> {
     /// `LABELS FLAGS DATE FROM SUBJECT`, of which SUBJECT may be missing.
-    pub(crate) fn take(mut words: Words<'a>) -> Result<MessageWords<'a>, LineFault>
+    pub(crate) fn take(mut words: Words<'a>) -> Read<MessageWords<'a>>
         ensures { takes_parts words.entry result }
     {
         Ok(MessageWords {
@@ -51,7 +51,7 @@ impl<'a> MessageWords<'a> {
     }
 
     /// The message. `BadFlags`, `BadDate`, and `MessageRefused` for what makes no message.
-    pub(crate) fn read(self, alloc: Global) -> Result<Message, LineFault>
+    pub(crate) fn read(self, alloc: Global) -> Read<Message>
         ensures { reads_message self.entry result }
     {
         let flags = read_flags(self.flags)?;
@@ -61,7 +61,7 @@ impl<'a> MessageWords<'a> {
 
     /// The message of these words, with these flags and this day. `MessageRefused`, and `OutOfMemory`
     /// last.
-    fn make(self, alloc: Global, flags: Flags, day: Day) -> Result<Message, LineFault>
+    fn make(self, alloc: Global, flags: Flags, day: Day) -> Read<Message>
         ensures { makes self.entry flags day result }
     {
         let (subject, body) = cut_body(self.subject_and_body);
@@ -118,7 +118,7 @@ fn parts_fault(from: &str, subject: &str, body: &str, labels: &str) -> Option<Me
 }
 
 /// The day that the word is. `BadDate` where it is none.
-fn read_day(word: &str) -> Result<Day, LineFault>
+fn read_day(word: &str) -> Read<Day>
     ensures { names Spells LineFault.BadDate word.now result }
 {
     match Day::read(word) {

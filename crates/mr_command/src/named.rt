@@ -2,15 +2,15 @@
 ghost use Rattle.mr_command.specs.Named.{SpellsFrame, BeginsWithLetter, NamesSubscriber, reads_replica, reads_new_id, reads_frame};
 ghost use Rattle.mr_command.specs.Reading.{names};
 
-use crate::LineFault;
 use crate::number::{read_id, read_number};
 use crate::pool::Pool;
 use crate::roster::Roster;
+use crate::{LineFault, Read};
 use mr_version::Author;
 use mr_world::Subscriber;
 
 /// The id of a replica that is there. `BadNumber`, `NoSuchReplica`.
-pub(crate) fn read_replica<R: Roster>(word: &str, roster: &R) -> Result<Author, LineFault>
+pub(crate) fn read_replica<R: Roster>(word: &str, roster: &R) -> Read<Author>
     ensures { reads_replica (R.scene roster.now) word.now result }
 {
     let id = read_id(word)?;
@@ -22,7 +22,7 @@ pub(crate) fn read_replica<R: Roster>(word: &str, roster: &R) -> Result<Author, 
 }
 
 /// An id that no replica has yet. `BadNumber`, `SameReplica`.
-pub(crate) fn read_new_id<R: Roster>(word: &str, roster: &R) -> Result<Author, LineFault>
+pub(crate) fn read_new_id<R: Roster>(word: &str, roster: &R) -> Read<Author>
     ensures { reads_new_id (R.scene roster.now) word.now result }
 {
     let id = read_id(word)?;
@@ -35,7 +35,7 @@ pub(crate) fn read_new_id<R: Roster>(word: &str, roster: &R) -> Result<Author, L
 
 /// The number of a frame that is in the pool. `BadNumber` where the word isn't the pool's letter and a
 /// number, `NoSuchFrame`.
-pub(crate) fn read_frame<R: Roster>(pool: Pool, word: &str, roster: &R) -> Result<u64, LineFault>
+pub(crate) fn read_frame<R: Roster>(pool: Pool, word: &str, roster: &R) -> Read<u64>
     ensures { reads_frame (R.scene roster.now) pool word.now result }
 {
     let number = read_frame_number(pool, word)?;
@@ -47,7 +47,7 @@ pub(crate) fn read_frame<R: Roster>(pool: Pool, word: &str, roster: &R) -> Resul
 }
 
 /// The number behind the pool's letter. `BadNumber` where the word isn't such.
-fn read_frame_number(pool: Pool, word: &str) -> Result<u64, LineFault>
+fn read_frame_number(pool: Pool, word: &str) -> Read<u64>
     ensures { names (SpellsFrame pool) LineFault.BadNumber word.now result }
 {
     match word.strip_prefix(pool.letter()) {
@@ -57,7 +57,7 @@ fn read_frame_number(pool: Pool, word: &str) -> Result<u64, LineFault>
 }
 
 /// The pool with whose letter the word begins. `BadNumber` where it begins with none.
-pub(crate) fn read_pool(word: &str) -> Result<Pool, LineFault>
+pub(crate) fn read_pool(word: &str) -> Read<Pool>
     ensures { names BeginsWithLetter LineFault.BadNumber word.now result }
 {
     match word.as_bytes() {
@@ -69,7 +69,7 @@ pub(crate) fn read_pool(word: &str) -> Result<Pool, LineFault>
 }
 
 /// The subscriber of this name. `BadNumber` where it is no subscriber's.
-pub(crate) fn read_subscriber(word: &str) -> Result<Subscriber, LineFault>
+pub(crate) fn read_subscriber(word: &str) -> Read<Subscriber>
     ensures { names NamesSubscriber LineFault.BadNumber word.now result }
 {
     match word {

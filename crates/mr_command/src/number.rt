@@ -5,11 +5,11 @@ ghost use Rattle.mr_command.specs.Number.{SpellsNumber, SpellsId, reads_up_to};
 ghost use Rattle.mr_command.specs.Reading.{names};
 ghost use Rattle.mr_version.specs.declared.author.TheConstants.{AUTHORS};
 
-use crate::LineFault;
+use crate::{LineFault, Read};
 use mr_version::{Author, read_decimal};
 
 /// The number that the word is. `BadNumber` where it is none below 2^64.
-pub(crate) fn read_number(word: &str) -> Result<u64, LineFault>
+pub(crate) fn read_number(word: &str) -> Read<u64>
     ensures { names SpellsNumber LineFault.BadNumber word.now result }
 {
     match read_decimal(word) {
@@ -28,7 +28,7 @@ fn author_of(text: &str) -> Option<Author>
 }
 
 /// The replica's id that the word is. `BadNumber` where it is no number of 0 to 63.
-pub(crate) fn read_id(word: &str) -> Result<Author, LineFault>
+pub(crate) fn read_id(word: &str) -> Read<Author>
     ensures { names SpellsId LineFault.BadNumber word.now result }
 {
     match author_of(word) {
@@ -38,7 +38,7 @@ pub(crate) fn read_id(word: &str) -> Result<Author, LineFault>
 }
 
 /// A number of 1 to `most`. `BadNumber`, and `outside` for a number that is not one of these.
-pub(crate) fn read_up_to(word: &str, most: u32, outside: LineFault) -> Result<u32, LineFault>
+pub(crate) fn read_up_to(word: &str, most: u32, outside: LineFault) -> Read<u32>
     ensures { reads_up_to most outside word.now result }
 {
     let number = read_number(word)?;

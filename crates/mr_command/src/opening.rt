@@ -1,11 +1,11 @@
 //! Lines that make replicas.
 ghost use Rattle.mr_command.specs.Opening.{takes_spec, reads_filter, reads_spec, reads_opening};
 
-use crate::LineFault;
 use crate::named::read_new_id;
 use crate::number::read_up_to;
 use crate::roster::Roster;
 use crate::words::Words;
+use crate::{LineFault, Read};
 use mr_feed::MAX_CAPACITY;
 use mr_filter::Filter;
 use mr_replica::MAX_EVENTS;
@@ -15,11 +15,7 @@ use std::marker::Model;
 
 /// `ID LIMIT CAP FILTER`. `WrongWords`, then `LateReplica` where other lines came before, and then the
 /// faults of its words.
-pub(crate) fn read_opening<R: Roster>(
-    alloc: Global,
-    words: Words,
-    roster: &R,
-) -> Result<Spec, LineFault>
+pub(crate) fn read_opening<R: Roster>(alloc: Global, words: Words, roster: &R) -> Read<Spec>
     ensures { reads_opening (R.scene roster.now) words.entry result }
 {
     let words = SpecWords::take(words)?;
@@ -49,7 +45,7 @@ impl<'a> Model for SpecWords<'a> {
 
 impl<'a> SpecWords<'a> {
     /// `ID LIMIT CAP FILTER`, of which FILTER is the rest.
-    fn take(mut words: Words<'a>) -> Result<SpecWords<'a>, LineFault>
+    fn take(mut words: Words<'a>) -> Read<SpecWords<'a>>
         ensures { takes_spec words.entry result }
     {
         Ok(SpecWords {
@@ -62,7 +58,7 @@ impl<'a> SpecWords<'a> {
 
     /// What the replica is made of. `BadNumber`, `SameReplica`, `BadLimit`, `BadCapacity`, and the
     /// faults of a filter.
-    fn read<R: Roster>(self, alloc: Global, roster: &R) -> Result<Spec, LineFault>
+    fn read<R: Roster>(self, alloc: Global, roster: &R) -> Read<Spec>
         ensures { reads_spec (R.scene roster.now) self.entry result }
     {
         let id = read_new_id(self.id, roster)?;
@@ -80,7 +76,7 @@ impl<'a> SpecWords<'a> {
 
 /// The filter whose text this is. `BadFilter`, `TooManyClauses`, `TooManyLabels`, and `OutOfMemory`
 /// last.
-fn read_filter(alloc: Global, text: &str) -> Result<Filter, LineFault>
+fn read_filter(alloc: Global, text: &str) -> Read<Filter>
     ensures { reads_filter text.now result }
 {
     Ok(Filter::read(alloc, text)?)

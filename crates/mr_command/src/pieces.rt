@@ -48,7 +48,7 @@ impl<'a> Pieces<'a> {
 }
 
 /// The first part of a text, and what stands after its separator if that is not its only one.
-fn first_piece(text: &str, separator: char) -> (&str, Option<&str>)
+pub(crate) fn first_piece(text: &str, separator: char) -> (&str, Option<&str>)
     requires { separator < 128 }
     ensures { parts_of separator text.now ≡ result.0.now ∷ parts_left separator result.1 }
 {

@@ -1,7 +1,7 @@
 //! Lines that ask what there is.
 ghost use Rattle.mr_command.specs.Question.{reads_text, reads_bytes, reads_index};
 
-use crate::LineFault;
+use crate::Read;
 use crate::command::Question;
 use crate::named::{read_frame, read_pool};
 use crate::roster::Roster;
@@ -10,7 +10,7 @@ use crate::words::Words;
 use std::alloc::Global;
 
 /// `Qn`, `Pn` or `Rn`
-pub(crate) fn read_bytes<R: Roster>(words: Words, roster: &R) -> Result<Question, LineFault>
+pub(crate) fn read_bytes<R: Roster>(words: Words, roster: &R) -> Read<Question>
     ensures { reads_bytes (R.scene roster.now) words.entry result }
 {
     let frame = words.one()?;
@@ -20,11 +20,7 @@ pub(crate) fn read_bytes<R: Roster>(words: Words, roster: &R) -> Result<Question
 }
 
 /// `R LABEL`, of which LABEL may be any word.
-pub(crate) fn read_index<R: Roster>(
-    alloc: Global,
-    words: Words,
-    roster: &R,
-) -> Result<Question, LineFault>
+pub(crate) fn read_index<R: Roster>(alloc: Global, words: Words, roster: &R) -> Read<Question>
     ensures { reads_index (R.scene roster.now) words.entry result }
 {
     let read = read_two(words, roster, |label| read_text(alloc, label));
@@ -32,7 +28,7 @@ pub(crate) fn read_index<R: Roster>(
 }
 
 /// Any word, as it stands.
-fn read_text(alloc: Global, word: &str) -> Result<String, LineFault>
+fn read_text(alloc: Global, word: &str) -> Read<String>
     ensures { reads_text word.now result }
 {
     Ok(String::from_str(alloc, word)?)

@@ -4,7 +4,6 @@ ghost use Rattle.std.specs.Option.{option_copied};
 ghost use Rattle.mr_model.specs.History.{◌does◌};
 ghost use Rattle.mr_command.specs.Command.{reads_most, reads_sync, reads_question, reads_event, reads_named};
 
-use crate::LineFault;
 use crate::command::{Command, Question, Sync};
 use crate::event::{read_create, read_edit, read_part};
 use crate::named::read_replica;
@@ -15,6 +14,7 @@ use crate::question::{read_bytes, read_index};
 use crate::roster::Roster;
 use crate::shape::{read_alone, read_followed, read_framed, read_numbered, read_versioned};
 use crate::words::Words;
+use crate::{LineFault, Read};
 use mr_version::Author;
 use mr_world::Act;
 use std::alloc::Global;
@@ -25,7 +25,7 @@ pub(crate) fn read_named<R: Roster>(
     name: &str,
     words: Words,
     roster: &R,
-) -> Result<Command, LineFault>
+) -> Read<Command>
     ensures { reads_named (R.scene roster.now) name.now words.entry result }
 {
     match name {
@@ -38,25 +38,16 @@ pub(crate) fn read_named<R: Roster>(
 }
 
 /// The event of this name, which has no message, or else the question of this name.
-fn read_event<R: Roster>(
-    alloc: Global,
-    name: &str,
-    words: Words,
-    roster: &R,
-) -> Result<Command, LineFault>
+fn read_event<R: Roster>(alloc: Global, name: &str, words: Words, roster: &R) -> Read<Command>
     ensures { reads_event (R.scene roster.now) name.now words.entry result }
 {
     match name {
         "retire" => read_alone(words, roster).map(|id| does(id, Act::Retire)),
         "pull" => read_alone(words, roster).map(|id| does(id, Act::Pull)),
-        "answer" => {
-            let read = read_framed(words, roster, Pool::Asks);
-            read.map(|(id, ask)| does(id, Act::Answer(ask)))
-        }
+        "answer" => read_framed(words, roster, Pool::Asks).map(|(id, n)| does(id, Act::Answer(n))),
         "next" => read_numbered(words, roster).map(|(id, stream)| does(id, Act::Next(stream))),
         "receive" => {
-            let read = read_framed(words, roster, Pool::Records);
-            read.map(|(id, record)| does(id, Act::Receive(record)))
+            read_framed(words, roster, Pool::Records).map(|(id, n)| does(id, Act::Receive(n)))
         }
         "part" => read_part(words, roster).map(Command::Happen),
         "cutin" => read_numbered(words, roster).map(|(id, session)| does(id, Act::CutIn(session))),
@@ -66,8 +57,7 @@ fn read_event<R: Roster>(
         "close" => read_followed(words, roster).map(|(id, port)| does(id, Act::Close(port))),
         "vouch" => read_versioned(words, roster).map(|(id, head)| does(id, Act::Vouch(head))),
         "release" => {
-            let read = read_framed(words, roster, Pool::Receipts);
-            read.map(|(id, receipt)| does(id, Act::Release(receipt)))
+            read_framed(words, roster, Pool::Receipts).map(|(id, n)| does(id, Act::Release(n)))
         }
         _ => read_question(alloc, name, words, roster),
     }
@@ -81,12 +71,7 @@ fn does(replica: Author, act: Act) -> Command
 }
 
 /// The question of this name. `UnknownCommand` where there is none.
-fn read_question<R: Roster>(
-    alloc: Global,
-    name: &str,
-    words: Words,
-    roster: &R,
-) -> Result<Command, LineFault>
+fn read_question<R: Roster>(alloc: Global, name: &str, words: Words, roster: &R) -> Read<Command>
     ensures { reads_question (R.scene roster.now) name.now words.entry result }
 {
     match name {
@@ -96,10 +81,7 @@ fn read_question<R: Roster>(
         "know" => read_alone(words, roster).map(|id| Command::Ask(Question::Know(id))),
         "feed" => read_alone(words, roster).map(|id| Command::Ask(Question::Feed(id))),
         "log" => read_alone(words, roster).map(|id| Command::Ask(Question::Log(id))),
-        "show" => {
-            let read = read_versioned(words, roster);
-            read.map(|(id, version)| Command::Ask(Question::Show(id, version)))
-        }
+        "show" => read_versioned(words, roster).map(|(id, v)| Command::Ask(Question::Show(id, v))),
         "bytes" => read_bytes(words, roster).map(Command::Ask),
         "index" => read_index(alloc, words, roster).map(Command::Ask),
         "unseen" => read_alone(words, roster).map(|id| Command::Ask(Question::Unseen(id))),
@@ -108,7 +90,7 @@ fn read_question<R: Roster>(
 }
 
 /// `T S`, or `T S N`
-fn read_sync<R: Roster>(words: Words, roster: &R) -> Result<Sync, LineFault>
+fn read_sync<R: Roster>(words: Words, roster: &R) -> Read<Sync>
     ensures { reads_sync (R.scene roster.now) words.entry result }
 {
     let (target, source, most) = words.two_or_three()?;
@@ -123,7 +105,7 @@ fn read_sync<R: Roster>(words: Words, roster: &R) -> Result<Sync, LineFault>
 }
 
 /// A number that may be missing.
-fn read_most(word: Option<&str>) -> Result<Option<u64>, LineFault>
+fn read_most(word: Option<&str>) -> Read<Option<u64>>
     ensures { reads_most (option_copied word.entry) result }
 {
     match word {

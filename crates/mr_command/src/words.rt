@@ -4,9 +4,9 @@ ghost use Rattle.std.specs.Option.{option_copied};
 ghost use Rattle.mr_command.specs.Taking.{takes_one, takes_two, takes_three, takes_two_or_three};
 ghost use Rattle.mr_command.specs.inner.Taking.{takes_at_most_one};
 ghost use Rattle.mr_command.specs.Words.{words, unwords};
-ghost use Rattle.mr_command.specs.inner.Words.{words_left};
 
-use crate::LineFault;
+use crate::pieces::first_piece;
+use crate::{LineFault, Read};
 use std::marker::Model;
 
 /// What is left of a line after some of its words were taken.
@@ -36,20 +36,20 @@ impl<'a> Words<'a> {
     }
 
     /// Takes the next word. `WrongWords` where there is none.
-    pub(crate) fn next_word(&mut self) -> Result<&'a str, LineFault>
+    pub(crate) fn next_word(&mut self) -> Read<&'a str>
         ensures { MatchResult result (λ word. self.old ≡ word.now ∷ self.new)
             (λ fault. (self.old ≡ []) × (self.new ≡ []) × (fault ≡ LineFault.WrongWords)) }
     {
         let Some(rest) = self.rest else {
             return Err(LineFault::WrongWords);
         };
-        let (word, after) = first_word(rest);
+        let (word, after) = first_piece(rest, ' ');
         self.rest = after;
         Ok(word)
     }
 
     /// The one word that is left. `WrongWords` where there are none or more.
-    pub(crate) fn one(mut self) -> Result<&'a str, LineFault>
+    pub(crate) fn one(mut self) -> Read<&'a str>
         ensures { MatchResult result (λ word. takes_one self.entry (Ok word.now)) (λ fault. takes_one self.entry (Err fault)) }
     {
         let word = self.next_word()?;
@@ -58,7 +58,7 @@ impl<'a> Words<'a> {
     }
 
     /// The two words that are left. `WrongWords` where there are fewer or more.
-    pub(crate) fn two(mut self) -> Result<(&'a str, &'a str), LineFault>
+    pub(crate) fn two(mut self) -> Read<(&'a str, &'a str)>
         ensures { MatchResult result (λ ws. takes_two self.entry (Ok (ws.0.now, ws.1.now))) (λ fault. takes_two self.entry (Err fault)) }
     {
         let first = self.next_word()?;
@@ -68,7 +68,7 @@ impl<'a> Words<'a> {
     }
 
     /// The three words that are left. `WrongWords` where there are fewer or more.
-    pub(crate) fn three(mut self) -> Result<(&'a str, &'a str, &'a str), LineFault>
+    pub(crate) fn three(mut self) -> Read<(&'a str, &'a str, &'a str)>
         ensures { MatchResult result (λ ws. takes_three self.entry (Ok (ws.0.now, ws.1.now, ws.2.now))) (λ fault. takes_three self.entry (Err fault)) }
     {
         let first = self.next_word()?;
@@ -80,7 +80,7 @@ impl<'a> Words<'a> {
 
     /// The two words that are left, and a third where it is there. `WrongWords` where there are fewer
     /// or more.
-    pub(crate) fn two_or_three(mut self) -> Result<(&'a str, &'a str, Option<&'a str>), LineFault>
+    pub(crate) fn two_or_three(mut self) -> Read<(&'a str, &'a str, Option<&'a str>)>
         ensures { MatchResult result (λ ws. takes_two_or_three self.entry (Ok (ws.0.now, ws.1.now, option_copied ws.2))) (λ fault. takes_two_or_three self.entry (Err fault)) }
     {
         let first = self.next_word()?;
@@ -90,7 +90,7 @@ impl<'a> Words<'a> {
     }
 
     /// The one word that is left, where there is one. `WrongWords` where there are more.
-    fn last_word(mut self) -> Result<Option<&'a str>, LineFault>
+    fn last_word(mut self) -> Read<Option<&'a str>>
         ensures { MatchResult result (λ word. takes_at_most_one self.entry (Ok (option_copied word))) (λ fault. takes_at_most_one self.entry (Err fault)) }
     {
         let Ok(word) = self.next_word() else {
@@ -101,7 +101,7 @@ impl<'a> Words<'a> {
     }
 
     /// All that is left as one text, with its spaces. `WrongWords` where no word is left.
-    pub(crate) fn text(self) -> Result<&'a str, LineFault>
+    pub(crate) fn text(self) -> Read<&'a str>
         ensures { MatchResult result (λ text. (text.now ≡ unwords self.entry) × (self.entry ≢ []))
             (λ fault. (self.entry ≡ []) × (fault ≡ LineFault.WrongWords)) }
     {
@@ -122,7 +122,7 @@ impl<'a> Words<'a> {
     }
 
     /// `WrongWords` where a word is left.
-    fn end(self) -> Result<(), LineFault>
+    fn end(self) -> Read<()>
         ensures exact { IsOk result ↔ (self.entry ≡ []) }
         ensures fault { IfErr result (λ fault. fault ≡ LineFault.WrongWords) }
     {
@@ -130,15 +130,5 @@ impl<'a> Words<'a> {
             Some(_) => Err(LineFault::WrongWords),
             None => Ok(()),
         }
-    }
-}
-
-/// The first word of a text, and what stands after it if that is not its only one.
-fn first_word(text: &str) -> (&str, Option<&str>)
-    ensures { words text.now ≡ result.0.now ∷ words_left result.1 }
-{
-    match text.split_once(' ') {
-        Some((word, after)) => (word, Some(after)),
-        None => (text, None),
     }
 }

@@ -1,10 +1,9 @@
 -- The dots of a history are the versions that were issued. Each answer shows a dot exactly where it issued a version:
 -- all else that it may show is another kind, and what it shows to take a record is one too.
-use Rattle.std.proofs.Common.{◌≡◌, ℕ, zero, suc, ◌+◌, ◌-◌, ◌==◌, ◌∙◌, ap, cond, Bool, true, false, List, [], ◌∷◌, Option, Some, None, Ok, Err, refl, map}
+use Rattle.std.proofs.Common.{◌≡◌, ℕ, zero, suc, ◌+◌, ◌-◌, ◌==◌, ◌∙◌, ap, cond, Bool, true, false, List, [], ◌∷◌, Option, Some, None, Ok, refl, map}
 use Rattle.std.specs.Prelude.{slice_get}
-use Rattle.std.specs.List.{cons_option, filter_map}
-use Rattle.std.specs.Option.{option_map}
-use Rattle.mr_version.specs.Name.{Name}
+use Rattle.mr_draw.proofs.Names.{Answered, Dot, Happened, Name, NoteLists, cons_option, dot_as, dot_at, dots, filter_map, happenings_from, happenings_of}
+use Rattle.mr_draw.proofs.Names.{issued_in, issued_versions, kind_of_answer, kind_of_done, kind_of_opened, kind_of_taken, lane_of, option_map}
 use Rattle.mr_mail.specs.Mail.{Mail}
 use Rattle.mr_model.specs.declared.event.Act.{Act}
 use Rattle.mr_model.specs.declared.event.Act.TheVariants as act
@@ -13,12 +12,8 @@ use Rattle.mr_wire.specs.declared.frame.Body.{Body}
 use Rattle.mr_wire.specs.declared.frame.Body.TheVariants as body
 use Rattle.mr_world.specs.Pool.{at_number}
 use Rattle.mr_world.specs.declared.answer.Answer.{Answer}
-use Rattle.mr_world.specs.declared.answer.Answer.TheVariants.{Stepped, Truncated, Offered, NothingNew, Full, TookEntry, Empty, Closed, Done}
-use Rattle.mr_world.specs.declared.answered.Answered.{Answered}
-use Rattle.mr_draw.specs.NoteLists.{NoteLists}
+use Rattle.mr_world.specs.declared.answer.Answer.TheVariants.{Stepped}
 use Rattle.mr_draw.specs.Notes.{gave_by, gave_in, notes_of, taking_as}
-use Rattle.mr_draw.specs.Happening.{Dot, dot_as, dot_at, dots, happenings_from, happenings_of, issued_in, issued_versions, kind_of_answer, kind_of_done, kind_of_opened, kind_of_taken, lane_of}
-use Rattle.mr_draw.specs.Happened.{Happened}
 use Rattle.mr_draw.specs.declared.happening.Kind.{Kind}
 use Rattle.mr_draw.specs.declared.happening.Kind.TheVariants.{Open, Release}
 
@@ -31,31 +26,11 @@ dotted by (Some kind) = dot_as (lane_of by kind) kind
 
 body-dotless : (by : ℕ) (source stream : ℕ) (b : Body) → dotted by (Some (taking_as source stream b)) ≡ None
 body-dotless by source stream (body.Start mode) = refl
-body-dotless by source stream (body.Item r) = refl
-body-dotless by source stream (body.MoveOut line) = refl
-body-dotless by source stream (body.Held vector) = refl
-body-dotless by source stream (body.Know piece) = refl
-body-dotless by source stream body.End = refl
+body-dotless by source stream b = refl
 
 gave-dotless : (by : ℕ) (a : Answer) → dotted by (gave_in a) ≡ None
 gave-dotless by (Stepped (Ok (reply.Gave sent))) = body-dotless by sent.header.source sent.header.stream sent.body
-gave-dotless by (Stepped (Ok (reply.Issued v))) = refl
-gave-dotless by (Stepped (Ok reply.Done)) = refl
-gave-dotless by (Stepped (Ok (reply.Asked ask))) = refl
-gave-dotless by (Stepped (Ok (reply.Streaming stream))) = refl
-gave-dotless by (Stepped (Ok reply.Took)) = refl
-gave-dotless by (Stepped (Ok reply.Known)) = refl
-gave-dotless by (Stepped (Ok reply.Finished)) = refl
-gave-dotless by (Stepped (Ok (reply.Vouched receipt))) = refl
-gave-dotless by (Stepped (Err refusal)) = refl
-gave-dotless by Truncated = refl
-gave-dotless by (Offered entry) = refl
-gave-dotless by NothingNew = refl
-gave-dotless by Full = refl
-gave-dotless by (TookEntry entry) = refl
-gave-dotless by Empty = refl
-gave-dotless by Closed = refl
-gave-dotless by Done = refl
+gave-dotless by a = refl
 
 one-dotless : (by : ℕ) (o : Option Kind) (kinds : List Kind) (i : ℕ) → dotted by o ≡ None → ((j : ℕ) → dotted by (slice_get kinds j) ≡ None) → dotted by (slice_get (cons_option o kinds) i) ≡ None
 one-dotless by None kinds i h others = others i
@@ -96,24 +71,12 @@ opened-dotless notes by a stream = refl
 -- ---- all that shows one
 
 dotted-answer : (xs : List Answered) (by : ℕ) (a : Act Mail) (answer : Answer) → dotted by (kind_of_answer (notes_of xs) a answer) ≡ option_map dot_at (issued_in answer)
-dotted-answer xs by a (Stepped (Ok (reply.Issued v))) = refl
 dotted-answer xs by a (Stepped (Ok reply.Done)) = done-dotless (notes_of xs) by a
-dotted-answer xs by a (Stepped (Ok (reply.Asked ask))) = refl
 dotted-answer xs by a (Stepped (Ok (reply.Streaming stream))) = opened-dotless (notes_of xs) by a stream
-dotted-answer xs by a (Stepped (Ok (reply.Gave sent))) = refl
 dotted-answer xs by a (Stepped (Ok reply.Took)) = taken-dotless xs by a
 dotted-answer xs by a (Stepped (Ok reply.Known)) = taken-dotless xs by a
 dotted-answer xs by a (Stepped (Ok reply.Finished)) = taken-dotless xs by a
-dotted-answer xs by a (Stepped (Ok (reply.Vouched receipt))) = refl
-dotted-answer xs by a (Stepped (Err refusal)) = refl
-dotted-answer xs by a Truncated = refl
-dotted-answer xs by a (Offered entry) = refl
-dotted-answer xs by a NothingNew = refl
-dotted-answer xs by a Full = refl
-dotted-answer xs by a (TookEntry entry) = refl
-dotted-answer xs by a Empty = refl
-dotted-answer xs by a Closed = refl
-dotted-answer xs by a Done = refl
+dotted-answer xs by a answer = refl
 
 dots-shown : (by : ℕ) (n : ℕ) (o : Option Kind) (hs : List Happened) → dots (cons_option (option_map (λ kind. record { lane = lane_of by kind; kind = kind; place = n }) o) hs) ≡ cons_option (dotted by o) (dots hs)
 dots-shown by n None hs = refl

@@ -1,9 +1,6 @@
 -- where a sync's band ends
 use Rattle.std.proofs.Common.{◌≡◌, ◌<◌, ℕ, ◌+◌, ◌∙◌, ap, sym, true, false, cond, if◌then◌else◌, List, [], ◌∷◌, ◌++◌, Some, None, unwrap_or, length, take, refl, arith}
-use Rattle.std.proofs.lemmas.List.{length-take-le}
-use Rattle.std.specs.Option.{option_or}
-use Rattle.mr_draw.specs.Ends.{is_of_stream, last_of_stream}
-use Rattle.mr_draw.specs.Happened.{Happened}
+use Rattle.mr_draw.proofs.Names.{Happened, is_of_stream, last_of_stream, length-take-le, option_or}
 
 -- one happening more is the last, if it is of the stream
 last_of_stream-more : (source stream n : ℕ) (hs : List Happened) (x : Happened) → last_of_stream source stream n (hs ++ x ∷ []) ≡ (if is_of_stream source stream x.kind then Some (n + length hs) else last_of_stream source stream n hs)

@@ -1,19 +1,11 @@
 -- lists that grow by what one element more gives
-use Rattle.std.proofs.Common.{◌≡◌, ℕ, ◌+◌, ◌∙◌, ap, sym, Bool, true, false, cond, if◌then◌else◌, List, [], ◌∷◌, ◌++◌, Option, Some, None, length, map, filter, refl, take, arith, ◌≤◌, append-nil, append_assoc, flat_map}
-use Rattle.std.proofs.lemmas.List.{map-append}
-use Rattle.std.proofs.lemmas.List.Elements.{filter-append, filter_map-append}
-use Rattle.std.specs.List.{cons_option, filter_map}
-use Rattle.std.specs.Option.{option_to_list}
+use Rattle.std.proofs.Common.{◌≡◌, ℕ, ◌+◌, ◌∙◌, ap, sym, Bool, cond, List, [], ◌∷◌, ◌++◌, Option, Some, None, length, filter, refl, take, get_or, arith, ◌<◌, ◌≤◌, append-nil, append_assoc, flat_map}
+use Rattle.mr_draw.proofs.Names.{cons_option, filter_map, filter_map-append, option_to_list, take_more}
 
 -- a list of one, or of none
 pub cons_option-nil : {A : Type 0} (x : Option A) → cons_option x [] ≡ option_to_list x
 cons_option-nil None = refl
 cons_option-nil (Some x) = refl
-
--- what was put before stays before
-pub cons_option-append : {A : Type 0} (x : Option A) (xs ys : List A) → cons_option x (xs ++ ys) ≡ cons_option x xs ++ ys
-cons_option-append None xs ys = refl
-cons_option-append (Some x) xs ys = refl
 
 -- one more gives what it gives
 filter_map-more : {A B : Type 0} (f : A → Option B) (xs : List A) (x : A) → filter_map f (xs ++ x ∷ []) ≡ filter_map f xs ++ option_to_list (f x)
@@ -23,12 +15,6 @@ flat_map-more : {A B : Type 0} (f : A → List B) (xs : List A) (x : A) → flat
 flat_map-more f [] x = append-nil (f x)
 flat_map-more f (y ∷ ys) x = ap (λ zs. f y ++ zs) (flat_map-more f ys x) ∙ sym (append_assoc (f y) (flat_map f ys) (f x))
 
--- a loop that puts behind the others what an element gives
-pub filter_map-pushed : {A B : Type 0} (f : A → Option B) (all : List A) (i : ℕ) (x : A) (before after : List B) → take (i + 1) all ≡ take i all ++ x ∷ [] →
-    before ≡ filter_map f (take i all) → after ≡ before ++ option_to_list (f x) → after ≡ filter_map f (take (i + 1) all)
-filter_map-pushed f all i x before after more invariant pushed =
-    pushed ∙ ap (λ ys. ys ++ option_to_list (f x)) invariant ∙ sym (filter_map-more f (take i all) x) ∙ ap (filter_map f) (sym more)
-
 -- a list that grew by one gives what that gives too
 pub flat_map-grown : {A B : Type 0} (f : A → List B) (start : List B) (xs longer : List A) (x : A) (before after : List B) → longer ≡ xs ++ x ∷ [] →
     before ≡ start ++ flat_map f xs → after ≡ before ++ f x → after ≡ start ++ flat_map f longer
@@ -36,12 +22,13 @@ flat_map-grown f start xs longer x before after more invariant pushed =
     pushed ∙ ap (λ ys. ys ++ f x) invariant ∙ append_assoc start (flat_map f xs) (f x)
     ∙ ap (λ ys. start ++ ys) (sym (flat_map-more f xs x) ∙ ap (flat_map f) (sym more))
 
--- the same where an element gives a list
-pub flat_map-pushed : {A B : Type 0} (f : A → List B) (start : List B) (all : List A) (i : ℕ) (x : A) (before after : List B) → take (i + 1) all ≡ take i all ++ x ∷ [] →
+-- a loop that puts behind the others what an element gives
+pub flat_map-pushed : {A B : Type 0} (f : A → List B) (start : List B) (all : List A) (i : ℕ) (x : A) (before after : List B) → i < length all → x ≡ get_or all i x →
     before ≡ start ++ flat_map f (take i all) → after ≡ before ++ f x → after ≡ start ++ flat_map f (take (i + 1) all)
-flat_map-pushed f start all i x before after more invariant pushed = flat_map-grown f start (take i all) (take (i + 1) all) x before after more invariant pushed
+flat_map-pushed f start all i x before after inside is =
+    flat_map-grown f start (take i all) (take (i + 1) all) x before after (take_more all i x inside ∙ ap (λ y. take i all ++ y ∷ []) (sym is))
 
--- the same for a list that grew
+-- the same where an element gives one thing at most
 pub filter_map-grown : {A B : Type 0} (f : A → Option B) (xs longer : List A) (x : A) (before after : List B) → longer ≡ xs ++ x ∷ [] →
     before ≡ filter_map f xs → after ≡ before ++ option_to_list (f x) → after ≡ filter_map f longer
 filter_map-grown f xs longer x before after more invariant pushed =
@@ -70,14 +57,6 @@ filter-same p q same (x ∷ xs) = ap (λ b. cond b (x ∷ filter p xs) (filter p
 pub joined3 : (s0 s1 s2 s3 a b c : List ℕ) → s1 ≡ s0 ++ a → s2 ≡ s1 ++ b → s3 ≡ s2 ++ c → s3 ≡ s0 ++ (a ++ b ++ c)
 joined3 s0 s1 s2 s3 a b c h1 h2 h3 =
     h3 ∙ ap (λ s. s ++ c) (h2 ∙ ap (λ s. s ++ b) h1 ∙ append_assoc s0 a b) ∙ append_assoc s0 (a ++ b) c
-
-pub joined5 : (s0 s1 s2 s3 s4 s5 a b c d e : List ℕ) → s1 ≡ s0 ++ a → s2 ≡ s1 ++ b → s3 ≡ s2 ++ c → s4 ≡ s3 ++ d → s5 ≡ s4 ++ e → s5 ≡ s0 ++ (a ++ b ++ c ++ d ++ e)
-joined5 s0 s1 s2 s3 s4 s5 a b c d e h1 h2 h3 h4 h5 =
-    h5 ∙ ap (λ s. s ++ e) (h4 ∙ ap (λ s. s ++ d) (joined3 s0 s1 s2 s3 a b c h1 h2 h3) ∙ append_assoc s0 (a ++ b ++ c) d) ∙ append_assoc s0 (a ++ b ++ c ++ d) e
-
-pub joined4 : (s0 s1 s2 s3 s4 a b c d : List ℕ) → s1 ≡ s0 ++ a → s2 ≡ s1 ++ b → s3 ≡ s2 ++ c → s4 ≡ s3 ++ d → s4 ≡ s0 ++ (a ++ b ++ c ++ d)
-joined4 s0 s1 s2 s3 s4 a b c d h1 h2 h3 h4 =
-    h4 ∙ ap (λ s. s ++ d) (joined3 s0 s1 s2 s3 a b c h1 h2 h3) ∙ append_assoc s0 (a ++ b ++ c) d
 
 pub joined2 : (s0 s1 s2 a b : List ℕ) → s1 ≡ s0 ++ a → s2 ≡ s1 ++ b → s2 ≡ s0 ++ (a ++ b)
 joined2 s0 s1 s2 a b h1 h2 = h2 ∙ ap (λ s. s ++ b) h1 ∙ append_assoc s0 a b

@@ -1,15 +1,9 @@
 -- the lanes and the marks of a picture
 use Rattle.std.proofs.Common.{◌≡◌, ◌<◌, ◌≤◌, ℕ, zero, suc, ◌+◌, ◌∙◌, ap, sym, subst, List, [], ◌∷◌, ◌++◌, length, map, take, refl, arith}
-use Rattle.std.proofs.lemmas.List.{length-take-le, map-append}
-use Rattle.mr_version.specs.Name.{Name}
+use Rattle.mr_draw.proofs.Names.{AreMarksOf, Happened, IsMarkOf, MAX_ROWS, Name, below, length-take-le, map-append, named_at, named_by, named_from}
 use Rattle.mr_world.specs.Kept.{WorldView}
 use Rattle.mr_draw.specs.MarkView.{MarkView}
 use Rattle.mr_draw.specs.HeadingView.{HeadingView}
-use Rattle.mr_draw.specs.Lanes.{below}
-use Rattle.mr_draw.specs.Picture.{named_at, named_by, named_from}
-use Rattle.mr_draw.specs.Sign.{AreMarksOf, IsMarkOf}
-use Rattle.mr_draw.specs.Happened.{Happened}
-use Rattle.mr_draw.specs.declared.marks.TheConstants.{MAX_ROWS}
 
 -- one id more
 pub below-more : (n : ℕ) → below (n + 1) ≡ below n ++ n ∷ []

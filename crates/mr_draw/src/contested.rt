@@ -7,18 +7,16 @@ ghost use Rattle.mr_draw.specs.Contested.{contested_in, merged_by, merged_of, ri
 ghost use Rattle.mr_draw.specs.Happening.{issued_in};
 ghost use Rattle.mr_draw.specs.Look.{are_several};
 
+use crate::Grown;
 use crate::marks::are_several;
 use mr_forms::Knowledge;
 use mr_replica::{Replica, Reply, Revision};
 use mr_version::{AUTHORS, Author, ItemId, Version};
 use mr_world::{Act, Answer, Answered, World};
-use std::alloc::{AllocError, Global};
+use std::alloc::Global;
 
 /// The versions that were one of several heads of an item: those that a merge names, and those that are it now.
-pub(crate) fn contested<K: Knowledge>(
-    alloc: Global,
-    world: &World<K>,
-) -> Result<Vec<Version>, AllocError>
+pub(crate) fn contested<K: Knowledge>(alloc: Global, world: &World<K>) -> Grown<Vec<Version>>
     ensures { IfOk result (λ contested. contested.items ≡ contested_in world.now) }
 {
     let mut contested = merged(alloc, world.answers())?;
@@ -29,7 +27,7 @@ pub(crate) fn contested<K: Knowledge>(
 }
 
 /// The versions that a merge names.
-fn merged(alloc: Global, answers: &[Answered]) -> Result<Vec<Version>, AllocError>
+fn merged(alloc: Global, answers: &[Answered]) -> Grown<Vec<Version>>
     ensures { IfOk result (λ merged. merged.items ≡ flat_map merged_by answers.now) }
 {
     let mut merged = Vec::new(alloc);
@@ -40,7 +38,7 @@ fn merged(alloc: Global, answers: &[Answered]) -> Result<Vec<Version>, AllocErro
 }
 
 /// Adds the versions that the event merged.
-fn push_merged(contested: &mut Vec<Version>, answered: &Answered) -> Result<(), AllocError>
+fn push_merged(contested: &mut Vec<Version>, answered: &Answered) -> Grown<()>
     ensures { OnOk result (contested.new.items ≡ contested.old.items ++ merged_by answered.now) }
 {
     match issued(&answered.answer) {
@@ -60,7 +58,7 @@ fn issued(answer: &Answer) -> Option<Version>
 }
 
 /// Adds the versions that the act merges.
-fn push_bases(contested: &mut Vec<Version>, act: &Act) -> Result<(), AllocError>
+fn push_bases(contested: &mut Vec<Version>, act: &Act) -> Grown<()>
     ensures { OnOk result (contested.new.items ≡ contested.old.items ++ merged_of act.now) }
 {
     match act {
@@ -70,7 +68,7 @@ fn push_bases(contested: &mut Vec<Version>, act: &Act) -> Result<(), AllocError>
 }
 
 /// Adds the versions, if they are not all one.
-fn push_several(contested: &mut Vec<Version>, versions: &[Version]) -> Result<(), AllocError>
+fn push_several(contested: &mut Vec<Version>, versions: &[Version]) -> Grown<()>
     ensures { OnOk result (contested.new.items ≡ contested.old.items ++ (if are_several versions.now then versions.now else [])) }
 {
     if are_several(versions) {
@@ -84,7 +82,7 @@ fn push_rivals_at<K: Knowledge>(
     contested: &mut Vec<Version>,
     world: &World<K>,
     id: u16,
-) -> Result<(), AllocError>
+) -> Grown<()>
     requires { id < AUTHORS }
     ensures { OnOk result (contested.new.items ≡ contested.old.items ++ rivals_at world.now id) }
 {
@@ -98,10 +96,7 @@ fn push_rivals_at<K: Knowledge>(
 }
 
 /// Adds the replica's heads whose items have several.
-fn push_rivals<K: Knowledge>(
-    contested: &mut Vec<Version>,
-    replica: &Replica<K>,
-) -> Result<(), AllocError>
+fn push_rivals<K: Knowledge>(contested: &mut Vec<Version>, replica: &Replica<K>) -> Grown<()>
     ensures { OnOk result (contested.new.items ≡ contested.old.items ++ rivals replica.now.heads) }
 {
     let items = replica.conflicts()?;
@@ -110,11 +105,7 @@ fn push_rivals<K: Knowledge>(
 }
 
 /// Adds the heads of these items.
-fn push_heads_of(
-    contested: &mut Vec<Version>,
-    heads: &[Revision],
-    items: &[ItemId],
-) -> Result<(), AllocError>
+fn push_heads_of(contested: &mut Vec<Version>, heads: &[Revision], items: &[ItemId]) -> Grown<()>
     ensures { OnOk result (contested.new.items ≡ contested.old.items ++ map (λ r. r.version) (filter (λ r. is_listed items.now r.item) heads.now)) }
 {
     for head in heads {
@@ -131,11 +122,7 @@ fn is_listed(items: &[ItemId], item: ItemId) -> bool
 }
 
 /// Adds the version, if it is wanted.
-fn push_if(
-    contested: &mut Vec<Version>,
-    version: Version,
-    is_wanted: bool,
-) -> Result<(), AllocError>
+fn push_if(contested: &mut Vec<Version>, version: Version, is_wanted: bool) -> Grown<()>
     ensures { OnOk result (contested.new.items ≡ contested.old.items ++ (if is_wanted then version ∷ [] else [])) }
 {
     if is_wanted {

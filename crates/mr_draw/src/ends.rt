@@ -2,11 +2,12 @@
 ghost use Rattle.std.specs.Prelude.{◌≡◌, ◌≤◌, ◌<◌, IfOk, length, unwrap_or};
 ghost use Rattle.mr_draw.specs.Ends.{IsWithin, is_of_stream, last_of_stream};
 
+use crate::Grown;
 use crate::happening::{Happening, Kind};
 use crate::marks::MAX_ROWS;
 use mr_version::{Author, Version};
 use mr_world::{Act, Answered};
-use std::alloc::{AllocError, Global};
+use std::alloc::Global;
 
 /// The row of the last record of the stream that was taken; this row where there is none.
 pub(crate) fn last_row_of_band(shown: &[Happening], row: u32, source: Author, stream: u64) -> u32
@@ -42,7 +43,7 @@ pub(crate) fn last_row_of_push_out(
     shown: &[Happening],
     row: u32,
     version: Version,
-) -> Result<u32, AllocError>
+) -> Grown<u32>
     requires row { row < length shown.now }
     requires few { length shown.now ≤ MAX_ROWS }
     ensures { IfOk result (IsWithin shown.now row) }

@@ -2,10 +2,10 @@
 ghost use Rattle.std.specs.Prelude.{◌≡◌, ◌++◌, OnOk, string_bytes};
 ghost use Rattle.mr_draw.specs.Escape.{entity, escaped};
 
-use std::alloc::AllocError;
+use crate::Grown;
 
 /// Adds the text, with an entity in place of each character that an SVG would take for its own.
-pub(crate) fn push_escaped(svg: &mut String, text: &str) -> Result<(), AllocError>
+pub(crate) fn push_escaped(svg: &mut String, text: &str) -> Grown<()>
     ensures { OnOk result (string_bytes svg.new ≡ string_bytes svg.old ++ escaped text.now) }
 {
     for character in text.chars() {
@@ -15,7 +15,7 @@ pub(crate) fn push_escaped(svg: &mut String, text: &str) -> Result<(), AllocErro
 }
 
 /// Adds the character, or its entity; for a control character, which no SVG may have, a space.
-fn push_entity(svg: &mut String, character: char) -> Result<(), AllocError>
+fn push_entity(svg: &mut String, character: char) -> Grown<()>
     ensures { OnOk result (string_bytes svg.new ≡ string_bytes svg.old ++ entity character) }
 {
     match character {

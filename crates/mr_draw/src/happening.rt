@@ -1,7 +1,9 @@
 //! What happened in a world, as far as a picture shows it.
 ghost use Rattle.std.specs.Prelude.{◌≡◌, IfOk, map};
-ghost use Rattle.mr_draw.specs.Happening.{dot_at, dots, issued_versions, kind_of, kind_of_done, kind_of_opened, kind_of_reply, kind_of_taken, lane_of, happening_at, happenings_from, happenings_of};
+ghost use Rattle.std.specs.List.{enumerate_from, filter_map};
+ghost use Rattle.mr_draw.specs.Happening.{dot_at, dots, issued_versions, kind_of, kind_of_done, kind_of_opened, kind_of_reply, kind_of_taken, lane_of, happening_at, happenings_of};
 
+use crate::Grown;
 use crate::notes::Notes;
 use mr_replica::Reply;
 use mr_version::{Author, Version};
@@ -62,20 +64,14 @@ pub fn happenings(alloc: Global, answers: &[Answered]) -> Result<Vec<Happening>,
 }
 
 /// The events that a picture shows, by the notes of all frames.
-fn happenings_by(
-    alloc: Global,
-    notes: &Notes,
-    answers: &[Answered],
-) -> Result<Vec<Happening>, AllocError>
-    ensures { IfOk result (λ found. found.items ≡ happenings_from notes.now 0 answers.now) }
+fn happenings_by(alloc: Global, notes: &Notes, answers: &[Answered]) -> Grown<Vec<Happening>>
+    ensures { IfOk result (λ found. found.items ≡ filter_map (λ p. happening_at notes.now p.0 p.1) (enumerate_from 0 answers.now)) }
 {
-    let mut found = Vec::new(alloc);
-    for (place, answered) in answers.iter().enumerate() {
-        if let Some(happening) = happening_at(notes, place, answered) {
-            found.push(happening)?;
-        }
-    }
-    Ok(found)
+    answers
+        .iter()
+        .enumerate()
+        .filter_map(|(place, answered)| happening_at(notes, place, answered))
+        .collect(alloc)
 }
 
 /// What the event at this place shows.

@@ -21,3 +21,7 @@ pub use happening::{Happening, Kind, happenings};
 pub use marks::MAX_ROWS;
 pub use picture::draw;
 pub use sheet::draw_nothing;
+use std::alloc::AllocError;
+
+/// What is made, or that there is no memory for it.
+type Grown<T> = Result<T, AllocError>;

@@ -3,18 +3,15 @@ ghost use Rattle.std.specs.Prelude.{◌≡◌, ◌++◌, ◌≤◌, ◌<◌, IfO
 ghost use Rattle.std.specs.List.{flat_map};
 ghost use Rattle.mr_draw.specs.Lines.{end_of, is_retirement, line_at, lines_of, retires};
 
+use crate::Grown;
 use crate::happening::{Happening, Kind};
 use crate::mark::{Look, Mark, Shape};
 use crate::marks::MAX_ROWS;
 use mr_version::Author;
-use std::alloc::{AllocError, Global};
+use std::alloc::Global;
 
 /// The lanes themselves: each thick as far as its replica admits events, and then thin.
-pub(crate) fn lines(
-    alloc: Global,
-    lanes: &[Author],
-    shown: &[Happening],
-) -> Result<Vec<Mark>, AllocError>
+pub(crate) fn lines(alloc: Global, lanes: &[Author], shown: &[Happening]) -> Grown<Vec<Mark>>
     requires { length shown.now ≤ MAX_ROWS }
     ensures { IfOk result (λ lines. lines.items ≡ flat_map (lines_of shown.now) lanes.now) }
 {
@@ -26,12 +23,7 @@ pub(crate) fn lines(
 }
 
 /// Adds the two lines of a lane.
-fn push_lines(
-    alloc: Global,
-    lines: &mut Vec<Mark>,
-    shown: &[Happening],
-    lane: Author,
-) -> Result<(), AllocError>
+fn push_lines(alloc: Global, lines: &mut Vec<Mark>, shown: &[Happening], lane: Author) -> Grown<()>
     requires { length shown.now ≤ MAX_ROWS }
     ensures { OnOk result (lines.new.items ≡ lines.old.items ++ lines_of shown.now lane) }
 {
@@ -44,13 +36,7 @@ fn push_lines(
 }
 
 /// A line along a lane.
-fn line(
-    alloc: Global,
-    lane: Author,
-    shape: Shape,
-    row: u32,
-    last_row: u32,
-) -> Result<Mark, AllocError>
+fn line(alloc: Global, lane: Author, shape: Shape, row: u32, last_row: u32) -> Grown<Mark>
     ensures { IfOk result (λ line. line ≡ line_at lane shape row last_row) }
 {
     Ok(Mark {

@@ -4,9 +4,9 @@ ghost use Rattle.std.specs.List.{flat_map};
 ghost use Rattle.mr_draw.specs.Look.{plain_look};
 ghost use Rattle.mr_draw.specs.Mark.{class_of, column_of, contested_class, drawn_text, head_of, label_at, label_down_of, label_right_of, line_text, mark_text, opening_text, path_text, pen_of, push_out_class, ring_of, shape_text, x_at, x_of, y_of};
 
+use crate::Grown;
 use crate::escape::push_escaped;
 use mr_version::Author;
-use std::alloc::AllocError;
 use std::marker::Model;
 
 /// How far the first lane is from the left edge.
@@ -217,7 +217,7 @@ fn place_of(lanes: &[Author], lane: Author) -> Option<usize>
 }
 
 /// Adds the mark.
-pub(crate) fn push_mark(svg: &mut String, lanes: &[Author], mark: &Mark) -> Result<(), AllocError>
+pub(crate) fn push_mark(svg: &mut String, lanes: &[Author], mark: &Mark) -> Grown<()>
     requires { length lanes.now ≤ 64 }
     ensures { OnOk result (string_bytes svg.new ≡ string_bytes svg.old ++ mark_text lanes.now mark.now) }
 {
@@ -229,7 +229,7 @@ pub(crate) fn push_mark(svg: &mut String, lanes: &[Author], mark: &Mark) -> Resu
 }
 
 /// Adds the beginning of a mark that looks so, up to its title.
-fn push_opening(svg: &mut String, look: Look) -> Result<(), AllocError>
+fn push_opening(svg: &mut String, look: Look) -> Grown<()>
     ensures { OnOk result (string_bytes svg.new ≡ string_bytes svg.old ++ opening_text look) }
 {
     let class = look.shape.class();
@@ -264,7 +264,7 @@ fn ring(is_contested: bool) -> &'static str
 }
 
 /// Adds what follows a mark's title, up to its label.
-fn push_path(svg: &mut String, lanes: &[Author], mark: &Mark) -> Result<(), AllocError>
+fn push_path(svg: &mut String, lanes: &[Author], mark: &Mark) -> Grown<()>
     requires { length lanes.now ≤ 64 }
     ensures { OnOk result (string_bytes svg.new ≡ string_bytes svg.old ++ path_text lanes.now mark.now) }
 {
@@ -274,14 +274,7 @@ fn push_path(svg: &mut String, lanes: &[Author], mark: &Mark) -> Result<(), Allo
 }
 
 /// Adds what looks so between two places, and where its label stands.
-fn push_shape(
-    svg: &mut String,
-    x: u64,
-    y: u64,
-    other_x: u64,
-    last_y: u64,
-    look: Look,
-) -> Result<(), AllocError>
+fn push_shape(svg: &mut String, x: u64, y: u64, other_x: u64, last_y: u64, look: Look) -> Grown<()>
     requires x { x < 65536 }
     requires y { y < 2 ^ 37 }
     requires other { other_x < 65536 }
@@ -296,7 +289,7 @@ fn push_shape(
 }
 
 /// Adds what is drawn at a mark's first place.
-fn push_pen(svg: &mut String, look: Look, is_from_right: bool) -> Result<(), AllocError>
+fn push_pen(svg: &mut String, look: Look, is_from_right: bool) -> Grown<()>
     ensures { OnOk result (string_bytes svg.new ≡ string_bytes svg.old ++ drawn_text look is_from_right) }
 {
     svg.push_str(look.shape.pen(is_from_right))?;
@@ -304,14 +297,14 @@ fn push_pen(svg: &mut String, look: Look, is_from_right: bool) -> Result<(), All
 }
 
 /// Adds the end of a path, and where the label stands.
-fn push_label_place(svg: &mut String, x: u64, y: u64) -> Result<(), AllocError>
+fn push_label_place(svg: &mut String, x: u64, y: u64) -> Grown<()>
     ensures { OnOk result (string_bytes svg.new ≡ string_bytes svg.old ++ label_at x y) }
 {
     write!(svg, "'/><text x='{x}' y='{y}'>")
 }
 
 /// Adds the beginning of a path: a line or a rectangle between two places, at the first of which the pen is then.
-fn push_line(svg: &mut String, x: u64, y: u64, other_x: u64, last_y: u64) -> Result<(), AllocError>
+fn push_line(svg: &mut String, x: u64, y: u64, other_x: u64, last_y: u64) -> Grown<()>
     ensures { OnOk result (string_bytes svg.new ≡ string_bytes svg.old ++ line_text x y other_x last_y) }
 {
     write!(svg, "</title><path d='M{x} {y}H{other_x}V{last_y}H{x}z")
@@ -350,11 +343,7 @@ pub(crate) fn y_of(row: u32) -> u64
 }
 
 /// Adds the marks in their order.
-pub(crate) fn push_marks(
-    svg: &mut String,
-    lanes: &[Author],
-    marks: &[Mark],
-) -> Result<(), AllocError>
+pub(crate) fn push_marks(svg: &mut String, lanes: &[Author], marks: &[Mark]) -> Grown<()>
     requires { length lanes.now ≤ 64 }
     ensures { OnOk result (string_bytes svg.new ≡ string_bytes svg.old ++ flat_map (mark_text lanes.now) marks.now) }
 {

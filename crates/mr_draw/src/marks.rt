@@ -9,6 +9,7 @@ ghost use Rattle.mr_draw.specs.Look.{are_several, dot_look, event_of, is_merge, 
 ghost use Rattle.mr_draw.specs.Sign.{AreMarksOf, IsMarkOf, other_lane_of};
 ghost use Rattle.mr_draw.specs.Words.{label_of, title_of};
 
+use crate::Grown;
 use crate::ends::{last_row_of_band, last_row_of_push_out};
 use crate::happening::{Happening, Kind};
 use crate::mark::{Look, Mark, Shape};
@@ -17,7 +18,7 @@ use mr_filter::Filter;
 use mr_forms::Knowledge;
 use mr_version::{Author, Version};
 use mr_world::{Act, Event, World};
-use std::alloc::{AllocError, Global};
+use std::alloc::Global;
 
 /// How many happenings a picture shows at most: the first ones.
 pub const MAX_ROWS: usize = 400;
@@ -34,10 +35,7 @@ pub(crate) struct Scene<'a, K: Knowledge> {
 }
 
 /// The marks of the first happenings, one for each, in their order: a row for each.
-pub(crate) fn marks<K: Knowledge>(
-    scene: &Scene<K>,
-    shown: &[Happening],
-) -> Result<Vec<Mark>, AllocError>
+pub(crate) fn marks<K: Knowledge>(scene: &Scene<K>, shown: &[Happening]) -> Grown<Vec<Mark>>
     requires { length shown.now ≤ MAX_ROWS }
     ensures { IfOk result (λ marks. AreMarksOf scene.now.world.now scene.now.happenings.now shown.now scene.now.contested.now 0 shown.now marks.items) }
 {
@@ -54,7 +52,7 @@ fn mark_of<K: Knowledge>(
     shown: &[Happening],
     row: u32,
     happening: &Happening,
-) -> Result<Mark, AllocError>
+) -> Grown<Mark>
     requires row { row < length shown.now }
     requires few { length shown.now ≤ MAX_ROWS }
     ensures { IfOk result (IsMarkOf scene.now.world.now scene.now.happenings.now shown.now scene.now.contested.now row happening.now) }
@@ -85,7 +83,7 @@ fn event_of<'a, K: Knowledge>(scene: &Scene<'a, K>, happening: &Happening) -> Op
 }
 
 /// What is written at the happening's mark.
-fn label_of<K: Knowledge>(scene: &Scene<K>, happening: &Happening) -> Result<String, AllocError>
+fn label_of<K: Knowledge>(scene: &Scene<K>, happening: &Happening) -> Grown<String>
     ensures { IfOk result (λ label. string_bytes label ≡ label_of scene.now.world.now scene.now.happenings.now happening.now) }
 {
     match event_of(scene, happening) {
@@ -101,7 +99,7 @@ fn label_of<K: Knowledge>(scene: &Scene<K>, happening: &Happening) -> Result<Str
 }
 
 /// What the happening's mark tells on pointing.
-fn title_of<K: Knowledge>(scene: &Scene<K>, happening: &Happening) -> Result<String, AllocError>
+fn title_of<K: Knowledge>(scene: &Scene<K>, happening: &Happening) -> Grown<String>
     ensures { IfOk result (λ title. string_bytes title ≡ title_of scene.now.world.now happening.now) }
 {
     match event_of(scene, happening) {
@@ -243,7 +241,7 @@ fn last_row_of<K: Knowledge>(
     row: u32,
     happening: &Happening,
     is_push_out: bool,
-) -> Result<u32, AllocError>
+) -> Grown<u32>
     requires row { row < length shown.now }
     requires few { length shown.now ≤ MAX_ROWS }
     ensures { IfOk result (EndsAs shown.now row happening.now.lane happening.now.kind is_push_out) }
@@ -262,7 +260,7 @@ fn last_row_of_dot<K: Knowledge>(
     row: u32,
     version: Version,
     is_push_out: bool,
-) -> Result<u32, AllocError>
+) -> Grown<u32>
     requires row { row < length shown.now }
     requires few { length shown.now ≤ MAX_ROWS }
     ensures { IfOk result (DotEnds shown.now row is_push_out) }

@@ -4,12 +4,13 @@ ghost use Rattle.std.specs.List.{filter_map};
 ghost use Rattle.mr_world.specs.Pool.{at_number};
 ghost use Rattle.mr_draw.specs.Notes.{asked_by, gave_by, notes_of, taking_of, vouched_by};
 
+use crate::Grown;
 use crate::happening::Kind;
 use mr_replica::Reply;
 use mr_version::{Author, Version};
 use mr_wire::{Body, Record};
 use mr_world::{Answer, Answered};
-use std::alloc::{AllocError, Global};
+use std::alloc::Global;
 use std::marker::Model;
 
 /// What the requests, records and receipts of a world say, each in the order of their numbers.
@@ -31,7 +32,7 @@ impl Model for Notes {
 
 impl Notes {
     /// The notes of all frames that were given. It costs three walks over the answers.
-    pub(crate) fn of(alloc: Global, answers: &[Answered]) -> Result<Notes, AllocError>
+    pub(crate) fn of(alloc: Global, answers: &[Answered]) -> Grown<Notes>
         ensures { IfOk result (λ notes. notes ≡ notes_of answers.now) }
     {
         Ok(Notes {
@@ -73,42 +74,24 @@ impl Notes {
 }
 
 /// Who gave each request.
-fn asks(alloc: Global, answers: &[Answered]) -> Result<Vec<Author>, AllocError>
+fn asks(alloc: Global, answers: &[Answered]) -> Grown<Vec<Author>>
     ensures { IfOk result (λ found. found.items ≡ filter_map asked_by answers.now) }
 {
-    let mut found = Vec::new(alloc);
-    for answered in answers {
-        if let Some(target) = asked_by(answered) {
-            found.push(target)?;
-        }
-    }
-    Ok(found)
+    answers.iter().filter_map(asked_by).collect(alloc)
 }
 
 /// What it shows to take each record that was given.
-fn records(alloc: Global, answers: &[Answered]) -> Result<Vec<Kind>, AllocError>
+fn records(alloc: Global, answers: &[Answered]) -> Grown<Vec<Kind>>
     ensures { IfOk result (λ found. found.items ≡ filter_map gave_by answers.now) }
 {
-    let mut found = Vec::new(alloc);
-    for answered in answers {
-        if let Some(taking) = gave_by(answered) {
-            found.push(taking)?;
-        }
-    }
-    Ok(found)
+    answers.iter().filter_map(gave_by).collect(alloc)
 }
 
 /// The version of each receipt that was given.
-fn receipts(alloc: Global, answers: &[Answered]) -> Result<Vec<Version>, AllocError>
+fn receipts(alloc: Global, answers: &[Answered]) -> Grown<Vec<Version>>
     ensures { IfOk result (λ found. found.items ≡ filter_map vouched_by answers.now) }
 {
-    let mut found = Vec::new(alloc);
-    for answered in answers {
-        if let Some(version) = vouched_by(answered) {
-            found.push(version)?;
-        }
-    }
-    Ok(found)
+    answers.iter().filter_map(vouched_by).collect(alloc)
 }
 
 fn asked_by(answered: &Answered) -> Option<Author>

@@ -7,6 +7,7 @@ ghost use Rattle.mr_draw.specs.Lines.{lines_of};
 ghost use Rattle.mr_draw.specs.Sign.{AreMarksOf};
 ghost use Rattle.mr_draw.specs.Picture.{Draws, HasFilter, IsFilterOf, IsWritten, beginning_of, label_among, name_of, named_at, named_by, named_from, shortened};
 
+use crate::Grown;
 use crate::contested::contested;
 use crate::happening::{Happening, happenings};
 use crate::lines::lines;
@@ -52,11 +53,7 @@ pub fn draw<K: Knowledge>(
 }
 
 /// What the picture says.
-fn sheet<K: Knowledge>(
-    scene: &Scene<K>,
-    names: &[&str],
-    lanes: Vec<Author>,
-) -> Result<Sheet, AllocError>
+fn sheet<K: Knowledge>(scene: &Scene<K>, names: &[&str], lanes: Vec<Author>) -> Grown<Sheet>
     ensures lanes { IfOk result (λ sheet. sheet.lanes ≡ lanes.items) }
     ensures named { IfOk result (λ sheet. map named_by sheet.headings ≡ named_from (map (λ name. name.now) names.now) 0 lanes.items) }
     ensures filters { IfOk result (λ sheet. All (HasFilter scene.now.world.now) sheet.headings) }
@@ -91,7 +88,7 @@ fn first(happenings: &[Happening]) -> &[Happening]
 }
 
 /// The lanes: the ids of the world's replicas, in rising order.
-fn lanes<K: Knowledge>(alloc: Global, world: &World<K>) -> Result<Vec<Author>, AllocError>
+fn lanes<K: Knowledge>(alloc: Global, world: &World<K>) -> Grown<Vec<Author>>
     ensures all { IfOk result (λ lanes. lanes.items ≡ lanes_in world.now) }
     ensures few { IfOk result (λ lanes. length lanes.items ≤ 64) }
 {
@@ -119,11 +116,7 @@ fn lane_at<K: Knowledge>(world: &World<K>, id: u16) -> Option<Author>
 }
 
 /// What stands above the lanes: for each in its order the next of the names.
-fn headings<K: Knowledge>(
-    scene: &Scene<K>,
-    names: &[&str],
-    lanes: &[Author],
-) -> Result<Vec<Heading>, AllocError>
+fn headings<K: Knowledge>(scene: &Scene<K>, names: &[&str], lanes: &[Author]) -> Grown<Vec<Heading>>
     ensures named { IfOk result (λ headings. map named_by headings.items ≡ named_from (map (λ name. name.now) names.now) 0 lanes.now) }
     ensures filters { IfOk result (λ headings. All (HasFilter scene.now.world.now) headings.items) }
     ensures written { IfOk result (λ headings. All (IsWritten (length lanes.now)) headings.items) }
@@ -142,7 +135,7 @@ fn heading<K: Knowledge>(
     lane_count: u64,
     column: usize,
     lane: Author,
-) -> Result<Heading, AllocError>
+) -> Grown<Heading>
     ensures named { IfOk result (λ heading. named_by heading ≡ named_at (map (λ name. name.now) names.now) column lane) }
     ensures filter { IfOk result (λ heading. HasFilter scene.now.world.now heading) }
     ensures written { IfOk result (IsWritten lane_count) }
@@ -168,7 +161,7 @@ fn name_at<'a>(names: &[&'a str], column: usize) -> Option<&'a str>
 }
 
 /// What a lane is called that was given this name, or none.
-fn name_of(alloc: Global, name: Option<&str>, lane: Author) -> Result<String, AllocError>
+fn name_of(alloc: Global, name: Option<&str>, lane: Author) -> Grown<String>
     ensures { IfOk result (λ text. string_bytes text ≡ name_of (option_map (λ given. given.now) name.entry) lane) }
 {
     match name {
@@ -178,7 +171,7 @@ fn name_of(alloc: Global, name: Option<&str>, lane: Author) -> Result<String, Al
 }
 
 /// The text of the replica's filter.
-fn filter_text<K: Knowledge>(scene: &Scene<K>, lane: Author) -> Result<String, AllocError>
+fn filter_text<K: Knowledge>(scene: &Scene<K>, lane: Author) -> Grown<String>
     ensures { IfOk result (λ text. IsFilterOf scene.now.world.now lane (string_bytes text)) }
 {
     match scene.world.replica(lane) {
@@ -188,7 +181,7 @@ fn filter_text<K: Knowledge>(scene: &Scene<K>, lane: Author) -> Result<String, A
 }
 
 /// What is written of the filter above one of so many lanes: nothing where there are many.
-fn label_among(alloc: Global, lane_count: u64, filter_text: &str) -> Result<String, AllocError>
+fn label_among(alloc: Global, lane_count: u64, filter_text: &str) -> Grown<String>
     ensures { IfOk result (λ label. string_bytes label ≡ label_among lane_count filter_text.now) }
 {
     if lane_count > FEW_LANES {
@@ -198,7 +191,7 @@ fn label_among(alloc: Global, lane_count: u64, filter_text: &str) -> Result<Stri
 }
 
 /// The first 18 characters of the text, and two dots where it goes on.
-fn shortened(alloc: Global, text: &str) -> Result<String, AllocError>
+fn shortened(alloc: Global, text: &str) -> Grown<String>
     ensures { IfOk result (λ short. string_bytes short ≡ shortened text.now) }
 {
     let mut short = beginning_of(alloc, text)?;
@@ -209,7 +202,7 @@ fn shortened(alloc: Global, text: &str) -> Result<String, AllocError>
 }
 
 /// The first 18 characters of the text.
-fn beginning_of(alloc: Global, text: &str) -> Result<String, AllocError>
+fn beginning_of(alloc: Global, text: &str) -> Grown<String>
     ensures { IfOk result (λ beginning. string_bytes beginning ≡ beginning_of text.now) }
 {
     text.chars().take(MOST_WRITTEN).collect(alloc)

@@ -1,8 +1,9 @@
 //! The text of a picture.
 ghost use Rattle.std.specs.Prelude.{◌≡◌, ◌++◌, ◌≤◌, ◌<◌, IfOk, OnOk, length, string_bytes};
 ghost use Rattle.std.specs.List.{flat_map};
-ghost use Rattle.mr_draw.specs.Sheet.{blank_text, fault_at, fault_text, filter_at, foot_text, heading_text, left_out_text, legend_at, legend_text, name_at, name_y, named_text, opening_of, parts_text, sheet_text, size_text, title_text, width_of};
+ghost use Rattle.mr_draw.specs.Sheet.{blank_text, fault_at, fault_text, foot_text, heading_text, left_out_text, legend_at, legend_text, name_y, named_text, opening_of, parts_text, sheet_text, size_text, title_text, width_of};
 
+use crate::Grown;
 use crate::escape::push_escaped;
 use crate::mark::{FEW_LANES, Mark, column_of, push_marks, x_at, x_of, y_of};
 use mr_version::Author;
@@ -107,7 +108,7 @@ impl Model for Sheet {
 }
 
 /// The text of a picture, with the text of a fault under it, if that is not empty.
-pub(crate) fn text_of(alloc: Global, sheet: &Sheet, fault: &str) -> Result<String, AllocError>
+pub(crate) fn text_of(alloc: Global, sheet: &Sheet, fault: &str) -> Grown<String>
     requires lanes { length sheet.now.lanes ≤ 64 }
     requires marks { length sheet.now.marks ≤ 400 }
     ensures { IfOk result (λ svg. string_bytes svg ≡ sheet_text sheet.now fault.now) }
@@ -145,7 +146,7 @@ fn push_parts(
     marks: &[Mark],
     left_out: u64,
     fault: &str,
-) -> Result<(), AllocError>
+) -> Grown<()>
     requires lanes { length lanes.now ≤ 64 }
     requires marks { length marks.now ≤ 400 }
     ensures { OnOk result (string_bytes svg.new ≡ string_bytes svg.old ++ parts_text lanes.now headings.now lines.now marks.now left_out fault.now) }
@@ -155,12 +156,11 @@ fn push_parts(
     push_headings(svg, lanes, headings)?;
     push_marks(svg, lanes, lines)?;
     push_marks(svg, lanes, marks)?;
-    push_foot(svg, rows, left_out, fault)?;
-    Ok(())
+    push_foot(svg, rows, left_out, fault)
 }
 
 /// Adds the beginning of a picture with so many lanes and rows.
-fn push_opening(svg: &mut String, lanes: u64, rows: u32) -> Result<(), AllocError>
+fn push_opening(svg: &mut String, lanes: u64, rows: u32) -> Grown<()>
     requires { lanes ≤ 64 }
     ensures { OnOk result (string_bytes svg.new ≡ string_bytes svg.old ++ opening_of lanes rows) }
 {
@@ -170,7 +170,7 @@ fn push_opening(svg: &mut String, lanes: u64, rows: u32) -> Result<(), AllocErro
 }
 
 /// Adds the first tag of a picture of this size.
-fn push_size(svg: &mut String, width: u64, height: u64) -> Result<(), AllocError>
+fn push_size(svg: &mut String, width: u64, height: u64) -> Grown<()>
     ensures { OnOk result (string_bytes svg.new ≡ string_bytes svg.old ++ size_text width height) }
 {
     write!(
@@ -193,7 +193,7 @@ fn width_of(lanes: u64) -> u64
 }
 
 /// Adds the lanes' names.
-fn push_headings(svg: &mut String, lanes: &[Author], headings: &[Heading]) -> Result<(), AllocError>
+fn push_headings(svg: &mut String, lanes: &[Author], headings: &[Heading]) -> Grown<()>
     requires { length lanes.now ≤ 64 }
     ensures { OnOk result (string_bytes svg.new ≡ string_bytes svg.old ++ flat_map (heading_text lanes.now) headings.now) }
 {
@@ -204,7 +204,7 @@ fn push_headings(svg: &mut String, lanes: &[Author], headings: &[Heading]) -> Re
 }
 
 /// Adds a lane's name.
-fn push_heading(svg: &mut String, lanes: &[Author], heading: &Heading) -> Result<(), AllocError>
+fn push_heading(svg: &mut String, lanes: &[Author], heading: &Heading) -> Grown<()>
     requires { length lanes.now ≤ 64 }
     ensures { OnOk result (string_bytes svg.new ≡ string_bytes svg.old ++ heading_text lanes.now heading.now) }
 {
@@ -227,25 +227,18 @@ fn name_y(lanes: u64, column: u64) -> u64
 }
 
 /// Adds a name and a filter, as they are written so far from the left edge and from the upper one.
-fn push_named(
-    svg: &mut String,
-    x: u64,
-    y: u64,
-    caption: &str,
-    label: &str,
-) -> Result<(), AllocError>
+fn push_named(svg: &mut String, x: u64, y: u64, caption: &str, label: &str) -> Grown<()>
     ensures { OnOk result (string_bytes svg.new ≡ string_bytes svg.old ++ named_text x y caption.now label.now) }
 {
-    push_name_place(svg, x, y)?;
+    write!(svg, "</title><text x='{x}' y='{y}'>")?;
     push_escaped(svg, caption)?;
-    push_filter_place(svg, x)?;
+    write!(svg, "</text><text class='filter' x='{x}' y='40'>")?;
     push_escaped(svg, label)?;
-    svg.push_str("</text></g>\n")?;
-    Ok(())
+    svg.push_str("</text></g>\n")
 }
 
 /// Adds what pointing at a lane's name tells: all of it, and the whole filter.
-fn push_title(svg: &mut String, name: &str, filter: &str) -> Result<(), AllocError>
+fn push_title(svg: &mut String, name: &str, filter: &str) -> Grown<()>
     ensures { OnOk result (string_bytes svg.new ≡ string_bytes svg.old ++ title_text name.now filter.now) }
 {
     svg.push_str("<g class='name'><title>")?;
@@ -255,22 +248,8 @@ fn push_title(svg: &mut String, name: &str, filter: &str) -> Result<(), AllocErr
     Ok(())
 }
 
-/// Adds what stands between a lane's title and its name.
-fn push_name_place(svg: &mut String, x: u64, y: u64) -> Result<(), AllocError>
-    ensures { OnOk result (string_bytes svg.new ≡ string_bytes svg.old ++ name_at x y) }
-{
-    write!(svg, "</title><text x='{x}' y='{y}'>")
-}
-
-/// Adds what stands between a lane's name and its filter.
-fn push_filter_place(svg: &mut String, x: u64) -> Result<(), AllocError>
-    ensures { OnOk result (string_bytes svg.new ≡ string_bytes svg.old ++ filter_at x) }
-{
-    write!(svg, "</text><text class='filter' x='{x}' y='40'>")
-}
-
 /// Adds what stands below the last row, and the end.
-fn push_foot(svg: &mut String, rows: u32, left_out: u64, fault: &str) -> Result<(), AllocError>
+fn push_foot(svg: &mut String, rows: u32, left_out: u64, fault: &str) -> Grown<()>
     ensures { OnOk result (string_bytes svg.new ≡ string_bytes svg.old ++ foot_text rows left_out fault.now) }
 {
     let y = y_of(rows);
@@ -280,7 +259,7 @@ fn push_foot(svg: &mut String, rows: u32, left_out: u64, fault: &str) -> Result<
 }
 
 /// Adds how many happenings have no mark, where some have none.
-fn push_left_out(svg: &mut String, y: u64, left_out: u64) -> Result<(), AllocError>
+fn push_left_out(svg: &mut String, y: u64, left_out: u64) -> Grown<()>
     ensures { OnOk result (string_bytes svg.new ≡ string_bytes svg.old ++ left_out_text y left_out) }
 {
     if left_out == 0 {
@@ -293,7 +272,7 @@ fn push_left_out(svg: &mut String, y: u64, left_out: u64) -> Result<(), AllocErr
 }
 
 /// Adds the text of a fault, if there is one.
-fn push_fault(svg: &mut String, y: u64, fault: &str) -> Result<(), AllocError>
+fn push_fault(svg: &mut String, y: u64, fault: &str) -> Grown<()>
     ensures { OnOk result (string_bytes svg.new ≡ string_bytes svg.old ++ fault_text y fault.now) }
 {
     if fault.is_empty() {
@@ -305,14 +284,14 @@ fn push_fault(svg: &mut String, y: u64, fault: &str) -> Result<(), AllocError>
 }
 
 /// Adds what stands before the text of a fault.
-fn push_fault_place(svg: &mut String, y: u64) -> Result<(), AllocError>
+fn push_fault_place(svg: &mut String, y: u64) -> Grown<()>
     ensures { OnOk result (string_bytes svg.new ≡ string_bytes svg.old ++ fault_at y) }
 {
     write!(svg, "<text class='fault' x='12' y='{y}'>")
 }
 
 /// Adds what the shapes mean, and the end.
-fn push_legend(svg: &mut String, y: u64) -> Result<(), AllocError>
+fn push_legend(svg: &mut String, y: u64) -> Grown<()>
     ensures { OnOk result (string_bytes svg.new ≡ string_bytes svg.old ++ legend_text y) }
 {
     push_legend_place(svg, y)?;
@@ -321,7 +300,7 @@ fn push_legend(svg: &mut String, y: u64) -> Result<(), AllocError>
 }
 
 /// Adds what stands before the legend.
-fn push_legend_place(svg: &mut String, y: u64) -> Result<(), AllocError>
+fn push_legend_place(svg: &mut String, y: u64) -> Grown<()>
     ensures { OnOk result (string_bytes svg.new ≡ string_bytes svg.old ++ legend_at y) }
 {
     write!(svg, "<g class='note' transform='translate(12 {y})'>\n")

@@ -2,11 +2,12 @@
 ghost use Rattle.std.specs.Prelude.{◌≡◌, ◌++◌, IfOk, OnOk, codes, count_by, string_bytes};
 ghost use Rattle.mr_draw.specs.Words.{cut_title, dot_label, dot_title, first_spaced, is_item_of, is_move_out_of, items_label, label_as, labels_title, mail_title, move_outs_label, origin_label, origin_title, spaced, sync_label, title_as};
 
+use crate::Grown;
 use crate::happening::{Happening, Kind};
 use mr_mail::{Label, Message};
 use mr_version::{Author, Version};
 use mr_world::Act;
-use std::alloc::{AllocError, Global};
+use std::alloc::Global;
 
 /// How many of the versions that an edit replaces are written at its dot.
 const MOST_BASES: usize = 2;
@@ -20,7 +21,7 @@ pub(crate) fn label_as(
     lane: Author,
     act: &Act,
     kind: &Kind,
-) -> Result<String, AllocError>
+) -> Grown<String>
     ensures { IfOk result (λ label. string_bytes label ≡ label_as all.now lane act.now kind.now) }
 {
     match kind {
@@ -37,7 +38,7 @@ pub(crate) fn label_as(
 }
 
 /// What is written at a version's dot: its name and, of an edit, what it replaces, of which the first two are named.
-fn dot_label(alloc: Global, version: Version, act: &Act) -> Result<String, AllocError>
+fn dot_label(alloc: Global, version: Version, act: &Act) -> Grown<String>
     ensures { IfOk result (λ label. string_bytes label ≡ dot_label version act.now) }
 {
     let mut label = format!(in alloc; "{version}")?;
@@ -46,7 +47,7 @@ fn dot_label(alloc: Global, version: Version, act: &Act) -> Result<String, Alloc
 }
 
 /// Adds what a version replaces that comes of this act.
-fn push_bases(label: &mut String, act: &Act) -> Result<(), AllocError>
+fn push_bases(label: &mut String, act: &Act) -> Grown<()>
     ensures { OnOk result (string_bytes label.new ≡ string_bytes label.old ++ origin_label act.now) }
 {
     match act {
@@ -59,7 +60,7 @@ fn push_bases(label: &mut String, act: &Act) -> Result<(), AllocError>
 }
 
 /// Adds the first two of the versions, each behind a space, and whether there are more.
-fn push_first(text: &mut String, versions: &[Version]) -> Result<(), AllocError>
+fn push_first(text: &mut String, versions: &[Version]) -> Grown<()>
     ensures { OnOk result (string_bytes text.new ≡ string_bytes text.old ++ first_spaced versions.now) }
 {
     if versions.len() <= MOST_BASES {
@@ -71,7 +72,7 @@ fn push_first(text: &mut String, versions: &[Version]) -> Result<(), AllocError>
 }
 
 /// Adds each version behind a space.
-fn push_spaced(text: &mut String, versions: &[Version]) -> Result<(), AllocError>
+fn push_spaced(text: &mut String, versions: &[Version]) -> Grown<()>
     ensures { OnOk result (string_bytes text.new ≡ string_bytes text.old ++ spaced versions.now) }
 {
     for version in versions {
@@ -81,12 +82,7 @@ fn push_spaced(text: &mut String, versions: &[Version]) -> Result<(), AllocError
 }
 
 /// What is written at a sync's band: how many items and move-outs of the stream were taken.
-fn sync_label(
-    alloc: Global,
-    all: &[Happening],
-    source: Author,
-    stream: u64,
-) -> Result<String, AllocError>
+fn sync_label(alloc: Global, all: &[Happening], source: Author, stream: u64) -> Grown<String>
     ensures { IfOk result (λ label. string_bytes label ≡ sync_label all.now source stream) }
 {
     let mut label = items_label(alloc, count_of_items(all, source, stream))?;
@@ -131,7 +127,7 @@ fn is_move_out_of(kind: &Kind, source: Author, stream: u64) -> bool
 }
 
 /// So many items.
-fn items_label(alloc: Global, count: usize) -> Result<String, AllocError>
+fn items_label(alloc: Global, count: usize) -> Grown<String>
     ensures { IfOk result (λ label. string_bytes label ≡ items_label count) }
 {
     if count == 1 {
@@ -142,7 +138,7 @@ fn items_label(alloc: Global, count: usize) -> Result<String, AllocError>
 }
 
 /// Adds so many move-outs, if there are any.
-fn push_move_outs(label: &mut String, count: usize) -> Result<(), AllocError>
+fn push_move_outs(label: &mut String, count: usize) -> Grown<()>
     ensures { OnOk result (string_bytes label.new ≡ string_bytes label.old ++ move_outs_label count) }
 {
     if count == 0 {
@@ -158,12 +154,7 @@ fn push_move_outs(label: &mut String, count: usize) -> Result<(), AllocError>
 // ---- what they tell on pointing
 
 /// What is told of what comes of this act on this lane.
-pub(crate) fn title_as(
-    alloc: Global,
-    lane: Author,
-    act: &Act,
-    kind: &Kind,
-) -> Result<String, AllocError>
+pub(crate) fn title_as(alloc: Global, lane: Author, act: &Act, kind: &Kind) -> Grown<String>
     ensures { IfOk result (λ title. string_bytes title ≡ title_as lane act.now kind.now) }
 {
     match kind {
@@ -194,7 +185,7 @@ pub(crate) fn title_as(
 }
 
 /// What a version's dot tells: what it replaces, and its message.
-fn dot_title(alloc: Global, version: Version, act: &Act) -> Result<String, AllocError>
+fn dot_title(alloc: Global, version: Version, act: &Act) -> Grown<String>
     ensures { IfOk result (λ title. string_bytes title ≡ dot_title version act.now) }
 {
     let mut title = format!(in alloc; "{version}")?;
@@ -203,7 +194,7 @@ fn dot_title(alloc: Global, version: Version, act: &Act) -> Result<String, Alloc
 }
 
 /// Adds what a version replaces that comes of this act, and its message.
-fn push_origin(title: &mut String, act: &Act) -> Result<(), AllocError>
+fn push_origin(title: &mut String, act: &Act) -> Grown<()>
     ensures { OnOk result (string_bytes title.new ≡ string_bytes title.old ++ origin_title act.now) }
 {
     match act {
@@ -221,7 +212,7 @@ fn push_origin(title: &mut String, act: &Act) -> Result<(), AllocError>
 }
 
 /// Adds the message's labels, sender and subject.
-fn push_message(title: &mut String, message: &Message) -> Result<(), AllocError>
+fn push_message(title: &mut String, message: &Message) -> Grown<()>
     ensures { OnOk result (string_bytes title.new ≡ string_bytes title.old ++ mail_title message.now) }
 {
     title.push_str(";")?;
@@ -233,7 +224,7 @@ fn push_message(title: &mut String, message: &Message) -> Result<(), AllocError>
 }
 
 /// Adds each label behind a space.
-fn push_labels(title: &mut String, labels: &[Label]) -> Result<(), AllocError>
+fn push_labels(title: &mut String, labels: &[Label]) -> Grown<()>
     ensures { OnOk result (string_bytes title.new ≡ string_bytes title.old ++ labels_title labels.now) }
 {
     for label in labels {
@@ -243,7 +234,7 @@ fn push_labels(title: &mut String, labels: &[Label]) -> Result<(), AllocError>
 }
 
 /// Adds the label behind a space.
-fn push_label(title: &mut String, label: &Label) -> Result<(), AllocError>
+fn push_label(title: &mut String, label: &Label) -> Grown<()>
     ensures { OnOk result (string_bytes title.new ≡ string_bytes title.old ++ codes " " ++ label.now) }
 {
     title.push(' ')?;
@@ -251,7 +242,7 @@ fn push_label(title: &mut String, label: &Label) -> Result<(), AllocError>
 }
 
 /// What a cut tells.
-fn cut_title(alloc: Global, lane: Author, act: &Act) -> Result<String, AllocError>
+fn cut_title(alloc: Global, lane: Author, act: &Act) -> Grown<String>
     ensures { IfOk result (λ title. string_bytes title ≡ cut_title lane act.now) }
 {
     match act {

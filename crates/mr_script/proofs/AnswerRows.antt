@@ -1,20 +1,15 @@
 -- Worked examples that the definitions of answers' lines have to meet.
 use Rattle.std.proofs.Common.{◌≡◌, refl, [], ◌∷◌, None, Ok, Err}
-use Rattle.std.specs.Prelude.{codes}
+use Rattle.mr_script.proofs.Names.{Dropped, Finished, Name, Refused, Stepped, TookEntry, answer_text, bytes_text, codes, gave_text, sync_text}
 use Rattle.std.specs.Fmt.{digits}
 use Rattle.hex.specs.Hex.{encode_with}
 use lib.Utf8.{encode}
-use Rattle.mr_version.specs.Name.{Name}
-use Rattle.mr_feed.specs.declared.entry.Entry.TheVariants.{Dropped}
 use Rattle.mr_replica.specs.declared.event.Reply.TheVariants.{Asked}
 use Rattle.mr_replica.specs.declared.refusal.Refusal.TheVariants.{NotHeld, LogFull}
 use Rattle.mr_wire.specs.declared.frame.Body.TheVariants.{Start, MoveOut, Held, Know, End}
 use Rattle.mr_wire.specs.declared.frame.Mode.TheVariants.{Full}
-use Rattle.mr_world.specs.declared.answer.Answer.TheVariants.{Stepped, TookEntry}
 use Rattle.mr_script.specs.declared.answer.PoolSizes.{PoolSizes}
 use Rattle.mr_command.specs.declared.pool.Pool.TheVariants.{Records}
-use Rattle.mr_script.specs.declared.sync_line.SyncEnd.TheVariants.{Finished, Refused}
-use Rattle.mr_script.specs.Answer.{answer_text, gave_text, bytes_text, sync_text}
 
 -- one request, five records and two receipts
 abbrev sizes : PoolSizes

@@ -1,6 +1,5 @@
 use Rattle.std.proofs.Common.{◌≡◌, ◌≤◌, ◌+◌, ℕ, List, Option, Some, None, length, length-append, refl, arith}
-use Rattle.std.specs.Io.KnownBytes.{Consumes}
-use Rattle.mr_script.specs.Script.{Accounts}
+use Rattle.mr_script.proofs.Names.{Accounts, Consumes}
 
 -- a script stays accounted for where no more is counted than is consumed
 pub Accounts-Consumes : (script old new : Option (List ℕ)) (bs : List ℕ) (taken counted : ℕ) → Accounts script old taken → Consumes old new bs → counted ≤ taken + length bs → Accounts script new counted

@@ -1,22 +1,9 @@
 -- an event whose answer nothing is read off, and a sync that is cut by such ones
 use Rattle.std.proofs.Common.{◌≢◌, ℕ, Option, Some, None, IsSomeAnd, Result, refl}
-use Rattle.mr_forms.specs.Known.{Form}
-use Rattle.mr_mail.specs.Mail.{Mail}
-use Rattle.mr_model.specs.declared.event.Event.{Event}
-use Rattle.mr_world.specs.Kept.{WorldView}
-use Rattle.mr_world.specs.Run.{Happens}
-use Rattle.mr_world.specs.declared.answer.Answer.{Answer}
-use Rattle.mr_command.specs.declared.command.Sync.{Sync}
-use Rattle.mr_command.specs.declared.fault.LineFault.{LineFault}
+use Rattle.mr_script.proofs.Names.{Answer, Cut, Doing, Event, Finished, Follows, Form, Happens, LineFault, Mail, Refused, Sync, SyncCounts, SyncEnd}
+use Rattle.mr_script.proofs.Names.{WorldView, closes, cuts_in, cuts_out, goes_on, happens, looking, newest, ◌andthen◌}
 use Rattle.mr_command.specs.Reading.{gives}
 use Rattle.mr_script.specs.declared.sync.Outcome.{Outcome}
-use Rattle.mr_script.specs.declared.sync_line.SyncCounts.{SyncCounts}
-use Rattle.mr_script.specs.declared.sync_line.SyncEnd.{SyncEnd}
-use Rattle.mr_script.specs.declared.sync_line.SyncEnd.TheVariants.{Finished, Cut, Refused}
-use Rattle.mr_script.specs.Doing.{Doing, Follows, happens, looking, ◌andthen◌}
-use Rattle.mr_script.specs.inner.Doing.{newest}
-use Rattle.mr_script.specs.Doing.Follows.{goes_on}
-use Rattle.mr_script.specs.Sync.{closes, cuts_in, cuts_out}
 
 noted_answer : (found : Option Answer) (Says : Answer → Type 0) → IsSomeAnd found Says → (answer : Answer) × Says answer
 noted_answer None Says h = absurd h

@@ -1,14 +1,8 @@
 -- one part of a command after another, where the first one is at fault
 use Rattle.std.proofs.Common.{◌≡◌, ℕ, List, Result, Err}
-use Rattle.std.specs.declared.string.String.{String}
-use Rattle.std.specs.declared.alloc.Global.{Global}
+use Rattle.mr_script.proofs.Names.{Doing, Follows, Global, LineFault, String, WorldView, err_from_is_err_and, text_of}
 use Rattle.std.specs.Result.{IsErrAnd}
-use Rattle.std.proofs.lemmas.Result.{err_from_is_err_and}
-use Rattle.mr_world.specs.Kept.{WorldView}
-use Rattle.mr_command.specs.declared.fault.LineFault.{LineFault}
-use Rattle.mr_script.specs.Doing.{Doing, Follows}
 use Rattle.mr_script.specs.Doing.Follows.{ends}
-use Rattle.mr_script.specs.Question.{text_of}
 
 module _ {K X : Type 0} {First : Doing K X} where
   -- the exit of a `?`, whose fault is passed on

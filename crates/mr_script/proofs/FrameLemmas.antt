@@ -1,13 +1,7 @@
 -- Lines of words, as they are written piece by piece.
 use Rattle.std.proofs.Common.{◌≡◌, ◌∙◌, ℕ, List, [], ◌∷◌, ◌++◌, Result, Ok, Err, IfOk, string_bytes, append_assoc, sym, ap}
-use Rattle.std.specs.Prelude.{codes}
-use Rattle.std.specs.declared.string.String.{String}
-use Rattle.std.specs.declared.alloc.Global.{Global}
-use Rattle.std.proofs.lemmas.List.{append-nil}
+use Rattle.mr_script.proofs.Names.{Global, IsAskLine, Question, String, after_spaces, append-nil, ask_words, codes, line_of}
 use Rattle.mr_filter.specs.Text.{IsFilterText}
-use Rattle.mr_wire.specs.Frames.{Question}
-use Rattle.mr_script.specs.Frame.{line_of, ask_words, IsAskLine}
-use Rattle.mr_script.specs.inner.Frame.{after_spaces}
 
 -- the line of a word and of those behind it, word by word
 abbrev line_from : List ℕ → List (List ℕ) → List ℕ

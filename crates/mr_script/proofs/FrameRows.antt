@@ -1,10 +1,9 @@
 -- Worked examples that the definitions of a frame's lines have to meet.
 use Rattle.std.proofs.Common.{true, false, refl}
-use Rattle.std.specs.Prelude.{codes}
+use Rattle.mr_script.proofs.Names.{Tells, bytes_of, codes}
 use Rattle.std.specs.Fmt.{digits}
 use Rattle.mr_wire.specs.Reading.{run_at}
 use Rattle.hex.proofs.OnLiterals.{hex_on_literals}
-use Rattle.mr_script.specs.Frame.{Tells, bytes_of}
 
 start : Tells (bytes_of (codes "0000001b 01 01 0000 0000000000000001 0001 0000000000000001 00000000 01")) (codes "start source 0 stream 1 target 1 session 1 index 0 full\n") false
 unfolding hex_on_literals digits run_at

@@ -1,8 +1,8 @@
+pub mod Names
 pub mod Answering
 pub mod Counted
 pub mod Cuts
 pub mod Following
-pub mod LeaveLemmas
 pub mod LineLemmas
 pub mod Lines
 pub mod OneEvent

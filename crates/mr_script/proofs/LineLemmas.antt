@@ -1,9 +1,6 @@
 -- the first line of some bytes, and the others
 use Rattle.std.proofs.Common.{◌≡◌, ◌≢◌, ◌==◌, ◌⊎◌, inl, inr, ℕ, true, false, List, [], ◌∷◌, refl, ap, sym, ◌∙◌}
-use Rattle.std.specs.List.{onto_first}
-use Rattle.std.specs.Io.BufRead.{take_through, drop_through}
-use Rattle.std.proofs.lemmas.Bool.{cases_Bool}
-use Rattle.mr_script.specs.Script.{lines_of}
+use Rattle.mr_script.proofs.Names.{cases_Bool, drop_through, lines_of, onto_first, take_through}
 
 -- a byte in front of the first line
 put_first : (b : ℕ) (bs first : List ℕ) (rest : List (List ℕ)) → (b == 10) ≡ false → lines_of bs ≡ first ∷ rest → lines_of (b ∷ bs) ≡ (b ∷ first) ∷ rest

@@ -1,24 +1,10 @@
 -- one event of a world and its answer
 use Rattle.std.proofs.Common.{◌≡◌, ◌+◌, ◌-◌, ℕ, List, [], ◌∷◌, ◌++◌, length, Option, Some, None, IsSome, IsSomeAnd, Result, inl, inr, refl, sym, arith, length-append}
-use Rattle.std.specs.Prelude.{slice_get}
-use Rattle.std.proofs.Math.Seq.{get_or-append_seam}
-use Rattle.std.proofs.lemmas.Option.{slice_get_read}
-use Rattle.mr_forms.specs.Known.{Form}
-use Rattle.mr_mail.specs.Mail.{Mail}
-use Rattle.mr_model.specs.declared.event.Event.{Event}
-use Rattle.mr_world.specs.Kept.{WorldView}
-use Rattle.mr_world.specs.Run.{Happens, IsStopFault, answered}
-use Rattle.mr_world.specs.declared.answer.Answer.{Answer}
+use Rattle.mr_script.proofs.Names.{Answer, Event, Form, Happens, IsStopFault, LineFault, Mail, Prevents, WorldView, answer_text, fault_of_stop}
+use Rattle.mr_script.proofs.Names.{get_or-append_seam, goes_on, happens_told, newest, sizes_of, slice_get, slice_get_read, tells}
+use Rattle.mr_world.specs.Run.{answered}
 use Rattle.mr_world.specs.declared.fault.WorldFault.{WorldFault}
 use Rattle.mr_world.specs.declared.fault.WorldFault.TheVariants as stops
-use Rattle.mr_command.specs.declared.fault.LineFault.{LineFault}
-use Rattle.mr_script.specs.Answer.{answer_text}
-use Rattle.mr_script.specs.Doing.{Prevents}
-use Rattle.mr_script.specs.inner.Doing.{newest}
-use Rattle.mr_script.specs.Doing.Follows.{goes_on}
-use Rattle.mr_script.specs.Fault.{fault_of_stop}
-use Rattle.mr_script.specs.Question.{tells}
-use Rattle.mr_script.specs.Stage.{happens_told, sizes_of}
 
 last_of_more : {X : Type 0} (xs : List X) (x : X) → slice_get (xs ++ x ∷ []) (length (xs ++ x ∷ []) - 1) ≡ Some x
 last_of_more xs x =

@@ -1,18 +1,11 @@
 -- the rounds of a sync, one after the other
 use Rattle.std.proofs.Common.{◌≡◌, ◌+◌, ◌<◌, ◌≤◌, ℕ, cond, List, [], ◌∷◌, ◌++◌, length, Ok, Err, refl, sym, subst, arith, length-append}
 use Rattle.std.proofs.lemmas.List.Sums.{sum_by_push, count_by-le-length}
-use Rattle.mr_forms.specs.Known.{Form}
-use Rattle.mr_world.specs.Kept.{WorldView}
-use Rattle.mr_command.specs.declared.command.Sync.{Sync}
-use Rattle.mr_command.specs.declared.fault.LineFault.{LineFault}
+use Rattle.mr_script.proofs.Names.{Cut, Form, LineFault, Rounds, Sync, SyncCounts, SyncEnd, TakesAll, WorldView, counts_of, counts_with, is_item, is_move_out}
+use Rattle.mr_script.proofs.Names.{most_of, round}
 use Rattle.mr_script.specs.declared.sync.Round.TheVariants.{Taken, Ended}
 use Rattle.mr_script.specs.declared.sync.Told.{Told}
 use Rattle.mr_script.specs.declared.sync.Told.TheVariants as told
-use Rattle.mr_script.specs.declared.sync_line.SyncCounts.{SyncCounts}
-use Rattle.mr_script.specs.declared.sync_line.SyncEnd.{SyncEnd}
-use Rattle.mr_script.specs.declared.sync_line.SyncEnd.TheVariants.{Cut}
-use Rattle.mr_script.specs.Sync.{Rounds, TakesAll, counts_of, is_item, is_move_out, most_of, round}
-use Rattle.mr_script.specs.inner.Sync.{counts_with}
 use Rattle.mr_script.specs.Sync.Rounds.{ended, enough, fails}
 
 same_counts : (a b c d : ℕ) → a ≡ b → c ≡ d → ◌≡◌ {A = SyncCounts} (record { items = a; move_outs = c }) (record { items = b; move_outs = d })

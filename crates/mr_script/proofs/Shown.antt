@@ -1,13 +1,10 @@
 -- a line that has been read already, up to its line feed
 use Rattle.std.proofs.Common.{◌≡◌, ◌≢◌, ℕ, ◌+◌, ◌-◌, ◌<◌, ◌≤◌, Bool, true, false, cond, List, [], ◌++◌, All, Option, None, Some, IfSome, length, take, get_or, get_or-take, length-take-le, refl, sym, ap, subst, ◌∙◌, arith, le_refl, eq-eqb, eqb-true}
-use Rattle.std.proofs.lemmas.List.Elements.{All-from_get_or, All-nil}
+use Rattle.mr_script.proofs.Names.{All-from_get_or, All-nil, Consumes, DropsConsumable, DropsThrough, IsFirstByte, Keeps, StopsAt-take, is_byte}
+use Rattle.mr_script.proofs.Names.{prepend_known, starts_with_of_append, take_through}
 use Rattle.std.specs.Io.{StartsWith, StopsAt, IsEmptyOrEndsWith}
-use Rattle.std.specs.Io.KnownBytes.{Keeps, Consumes, prepend_known}
-use Rattle.std.specs.Io.BufRead.{take_through, DropsConsumable, DropsThrough}
 use Rattle.std.proofs.BufReadLemmas.{Consumes_shown, Consumes_through}
 use Rattle.std.proofs.KnownBytes.{Consumes-nil}
-use Rattle.std.proofs.Transfers.{starts_with_of_append, StopsAt-take}
-use Rattle.memchr.specs.Find.{IsFirstByte, is_byte}
 
 -- the known bytes of a reader begin with what its buffer shows
 pub shown_first : (shown : List ℕ) (unknown : Bool) (behind : Option (List ℕ)) → IfSome (cond unknown None (prepend_known shown behind)) (λ xs. StartsWith xs shown)

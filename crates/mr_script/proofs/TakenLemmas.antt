@@ -1,17 +1,11 @@
 -- what a subscriber took, one answer further, and what a word names that is no label
 use Rattle.std.proofs.Common.{◌≡◌, ◌∙◌, ◌&&◌, ℕ, ap, sym, refl, List, [], ◌∷◌, ◌++◌, Option, Some, None, Bool, false}
-use Rattle.std.specs.List.{cons_option}
-use Rattle.std.specs.Option.{option_to_list}
-use Rattle.std.proofs.lemmas.List.Elements.{filter_map-append}
-use Rattle.mr_mail.specs.Label.{is_label}
-use Rattle.mr_mail.specs.Mail.{MailCard}
+use Rattle.mr_script.proofs.Names.{Answered, Entry, Lists, MailCard, cons_option, filter_map-append, is_label, option_to_list, taken_at, taken_of}
 use Rattle.mr_model.specs.Headline.{Cards}
 use Rattle.mr_model.specs.declared.event.Subscriber.{Subscriber}
-use Rattle.mr_feed.specs.declared.entry.Entry.{Entry}
 use Rattle.mr_subs.specs.Index.{labelled}
 use Rattle.mr_subs.proofs.IndexLemmas.{rising-none}
-use Rattle.mr_world.specs.declared.answered.Answered.{Answered}
-use Rattle.mr_script.specs.Taken.{taken_at, taken_of, indexed, Lists}
+use Rattle.mr_script.specs.Taken.{indexed}
 
 cons_option-nil : (found : Option Entry) → cons_option found [] ≡ option_to_list found
 cons_option-nil None = refl

@@ -1,16 +1,9 @@
 -- Worked examples that the definitions of what subscribers took have to meet.
 use Rattle.std.proofs.Common.{◌≡◌, ℕ, refl, List, [], ◌∷◌}
-use Rattle.std.specs.Prelude.{codes}
+use Rattle.mr_script.proofs.Names.{Answered, Dropped, Empty, Entry, Indexer, Name, Notifier, Offered, TookEntry, codes, index_text, taken_of}
 use Rattle.std.specs.Fmt.{digits}
-use Rattle.mr_version.specs.Name.{Name}
-use Rattle.mr_feed.specs.declared.entry.Entry.{Entry}
-use Rattle.mr_feed.specs.declared.entry.Entry.TheVariants.{Dropped}
-use Rattle.mr_model.specs.History.{◌does◌}
+use Rattle.mr_script.proofs.Names.{unseen_text, ◌does◌}
 use Rattle.mr_model.specs.declared.event.Act.TheVariants.{Take, Offer}
-use Rattle.mr_model.specs.declared.event.Subscriber.TheVariants.{Indexer, Notifier}
-use Rattle.mr_world.specs.declared.answer.Answer.TheVariants.{TookEntry, Empty, Offered}
-use Rattle.mr_world.specs.declared.answered.Answered.{Answered}
-use Rattle.mr_script.specs.Taken.{taken_of, index_text, unseen_text}
 
 abbrev name : (counter : ℕ) → Name
 name counter = record { author = 0; counter = counter }

@@ -1,10 +1,8 @@
 -- What is told of a word, by what its digits gave.
 use Rattle.std.proofs.Common.{◌≡◌, refl, ℕ, true, List, length, Option, Some, None, Result, Ok, Err, IfOk, string_bytes}
-use Rattle.std.specs.Prelude.{codes}
+use Rattle.mr_script.proofs.Names.{GivesBytes, Tells, TellsFound, codes}
 use Rattle.hex.specs.declared.error.FromHexError.{FromHexError}
 use Rattle.mr_wire.specs.Decoding.{decoded}
-use Rattle.mr_script.specs.Frame.{Tells, TellsFound}
-use Rattle.mr_script.specs.inner.Frame.{GivesBytes}
 use Rattle.mr_script.specs.declared.frame.FrameText.{FrameText}
 
 -- the bytes that were found are told

@@ -2,7 +2,6 @@
 pub mod Doing
 pub mod Fault
 pub mod Frame
-pub mod Leaving
 pub mod Run
 pub mod Sync
 pub mod Waiting

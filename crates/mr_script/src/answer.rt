@@ -4,13 +4,14 @@ ghost use Rattle.mr_version.specs.Name.{name_text};
 ghost use Rattle.mr_script.specs.Answer.{answer_text, reply_text, gave_text, short_words, took_text, entry_text, refused_text, refusal_text, named_version};
 ghost use Rattle.mr_script.specs.inner.Frame.{after_spaces};
 
+use crate::Grown;
 use crate::frame_line::{kind_of, push_said};
 use mr_feed::Entry;
 use mr_replica::{Refusal, Reply};
 use mr_version::Version;
 use mr_wire::Body;
 use mr_world::Answer;
-use std::alloc::{AllocError, Global};
+use std::alloc::Global;
 
 /// How many frames each of a world's pools has. It is the number of the pool's newest frame.
 #[derive(Clone, Copy, Debug, PartialEq, Eq)]
@@ -22,11 +23,7 @@ pub(crate) struct PoolSizes {
 
 /// What is printed of an answer, after which the pools have these sizes: the frame that the answer gave
 /// is the newest of its pool.
-pub(crate) fn answer_line(
-    alloc: Global,
-    sizes: PoolSizes,
-    answer: &Answer,
-) -> Result<String, AllocError>
+pub(crate) fn answer_line(alloc: Global, sizes: PoolSizes, answer: &Answer) -> Grown<String>
     ensures { IfOk result (λ line. string_bytes line ≡ answer_text sizes answer.now) }
 {
     match answer {
@@ -44,7 +41,7 @@ pub(crate) fn answer_line(
 }
 
 /// What is printed of a replica's reply.
-fn reply_line(alloc: Global, sizes: PoolSizes, reply: &Reply) -> Result<String, AllocError>
+fn reply_line(alloc: Global, sizes: PoolSizes, reply: &Reply) -> Grown<String>
     ensures { IfOk result (λ line. string_bytes line ≡ reply_text sizes reply.now) }
 {
     match reply {
@@ -67,7 +64,7 @@ fn reply_line(alloc: Global, sizes: PoolSizes, reply: &Reply) -> Result<String, 
 }
 
 /// `gave Pn `, and the record in short.
-fn gave_line(alloc: Global, number: u64, body: &Body) -> Result<String, AllocError>
+fn gave_line(alloc: Global, number: u64, body: &Body) -> Grown<String>
     ensures { IfOk result (λ line. string_bytes line ≡ gave_text number body.now) }
 {
     let kind = kind_of(body);
@@ -78,7 +75,7 @@ fn gave_line(alloc: Global, number: u64, body: &Body) -> Result<String, AllocErr
 }
 
 /// Adds what a record says in short, each word after a space.
-fn push_short(alloc: Global, line: &mut String, body: &Body) -> Result<(), AllocError>
+fn push_short(alloc: Global, line: &mut String, body: &Body) -> Grown<()>
     ensures { OnOk result (string_bytes line.new ≡ string_bytes line.old ++ after_spaces (short_words body.now)) }
 {
     match body {
@@ -89,14 +86,14 @@ fn push_short(alloc: Global, line: &mut String, body: &Body) -> Result<(), Alloc
 }
 
 /// Adds a version after a space.
-fn push_version(line: &mut String, version: Version) -> Result<(), AllocError>
+fn push_version(line: &mut String, version: Version) -> Grown<()>
     ensures { OnOk result (string_bytes line.new ≡ string_bytes line.old ++ codes " " ++ name_text version) }
 {
     write!(line, " {version}")
 }
 
 /// `took +V` or `took -V`
-fn took_line(alloc: Global, entry: &Entry) -> Result<String, AllocError>
+fn took_line(alloc: Global, entry: &Entry) -> Grown<String>
     ensures { IfOk result (λ line. string_bytes line ≡ took_text entry.now) }
 {
     let mut line = String::from_str(alloc, "took ")?;
@@ -106,7 +103,7 @@ fn took_line(alloc: Global, entry: &Entry) -> Result<String, AllocError>
 }
 
 /// Adds `+V` for a version that entered, or `-V` for one that left.
-pub(crate) fn push_entry(line: &mut String, entry: &Entry) -> Result<(), AllocError>
+pub(crate) fn push_entry(line: &mut String, entry: &Entry) -> Grown<()>
     ensures { OnOk result (string_bytes line.new ≡ string_bytes line.old ++ entry_text entry.now) }
 {
     match entry {
@@ -116,7 +113,7 @@ pub(crate) fn push_entry(line: &mut String, entry: &Entry) -> Result<(), AllocEr
 }
 
 /// `refused N Name`, and the version that is named by `NotHeld` and `OwnHeadLeft`.
-pub(crate) fn refused_line(alloc: Global, refusal: Refusal) -> Result<String, AllocError>
+pub(crate) fn refused_line(alloc: Global, refusal: Refusal) -> Grown<String>
     ensures { IfOk result (λ line. string_bytes line ≡ refused_text refusal) }
 {
     let mut line = String::new(alloc);
@@ -126,7 +123,7 @@ pub(crate) fn refused_line(alloc: Global, refusal: Refusal) -> Result<String, Al
 }
 
 /// Adds `refused N Name`, and the version that is named.
-pub(crate) fn push_refusal(line: &mut String, refusal: Refusal) -> Result<(), AllocError>
+pub(crate) fn push_refusal(line: &mut String, refusal: Refusal) -> Grown<()>
     ensures { OnOk result (string_bytes line.new ≡ string_bytes line.old ++ refusal_text refusal) }
 {
     let (number, name) = (refusal.number(), refusal.name());

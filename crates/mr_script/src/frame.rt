@@ -4,6 +4,7 @@ ghost use Rattle.mr_wire.specs.Decoding.{decoded};
 ghost use Rattle.mr_script.specs.Frame.{Tells, TellsFound, bytes_of, fault_name, refused_line, rest_line};
 ghost use Rattle.mr_script.specs.inner.Frame.{GivesBytes};
 
+use crate::Grown;
 use crate::frame_line::frame_line;
 use hex::FromHexError;
 use mr_wire::{WireFault, decode};
@@ -38,7 +39,7 @@ pub fn frame_text(alloc: Global, word: &str) -> Result<FrameText, AllocError>
 }
 
 /// The bytes that the word spells, if it is of such digits and spaces.
-fn bytes_spelled(alloc: Global, word: &str) -> Result<Option<Vec<u8>>, AllocError>
+fn bytes_spelled(alloc: Global, word: &str) -> Grown<Option<Vec<u8>>>
     ensures { IfOk result (λ found. GivesBytes (bytes_of word.now) (option_map (λ bytes. bytes.items) found)) }
 {
     let digits: Vec<u8> = word
@@ -55,7 +56,7 @@ fn bytes_spelled(alloc: Global, word: &str) -> Result<Option<Vec<u8>>, AllocErro
 }
 
 /// What the bytes say.
-fn found_text(alloc: Global, bytes: &[u8]) -> Result<FrameText, AllocError>
+fn found_text(alloc: Global, bytes: &[u8]) -> Grown<FrameText>
     ensures { IfOk result (λ text. TellsFound (decoded bytes.now) (length bytes.now) (string_bytes text.lines) text.is_fault) }
 {
     match decode(alloc, bytes) {
@@ -76,7 +77,7 @@ fn found_text(alloc: Global, bytes: &[u8]) -> Result<FrameText, AllocError>
 }
 
 /// Adds the line `rest N`, if there are bytes behind the frame.
-fn push_rest(lines: &mut String, count: usize) -> Result<(), AllocError>
+fn push_rest(lines: &mut String, count: usize) -> Grown<()>
     ensures { OnOk result (string_bytes lines.new ≡ string_bytes lines.old ++ rest_line count) }
 {
     if count == 0 {
@@ -86,7 +87,7 @@ fn push_rest(lines: &mut String, count: usize) -> Result<(), AllocError>
 }
 
 /// `refused N Name`
-fn fault_line(alloc: Global, fault: WireFault) -> Result<String, AllocError>
+fn fault_line(alloc: Global, fault: WireFault) -> Grown<String>
     ensures { IfOk result (λ line. string_bytes line ≡ refused_line fault) }
 {
     let (number, name) = (fault.number(), name_of(fault));

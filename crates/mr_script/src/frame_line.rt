@@ -3,14 +3,15 @@ ghost use Rattle.std.specs.Prelude.{◌≡◌, ◌++◌, IfOk, OnOk, codes, stri
 ghost use Rattle.mr_script.specs.Frame.{IsAskLine, IsFrameLine, header_words, kind_word, line_of, piece_text, pieces_text, receipt_words, record_words, said_words, version_words, joined_words};
 ghost use Rattle.mr_script.specs.inner.Frame.{after_spaces};
 
+use crate::Grown;
 use mr_concise::knowledge_text;
 use mr_version::{ItemId, Version};
 use mr_wire::{Ask, Body, Frame, FrameFragment, Header, Mode, Receipt, Record};
-use std::alloc::{AllocError, Global};
+use std::alloc::Global;
 use std::slice;
 
 /// The frame's line, with its line feed.
-pub(crate) fn frame_line(alloc: Global, frame: &Frame) -> Result<String, AllocError>
+pub(crate) fn frame_line(alloc: Global, frame: &Frame) -> Grown<String>
     ensures { IfOk result (λ line. IsFrameLine frame.now (string_bytes line)) }
 {
     match frame {
@@ -21,7 +22,7 @@ pub(crate) fn frame_line(alloc: Global, frame: &Frame) -> Result<String, AllocEr
 }
 
 /// `ask target T session N knows KNOWLEDGE filter FILTER`
-fn ask_line(alloc: Global, ask: &Ask) -> Result<String, AllocError>
+fn ask_line(alloc: Global, ask: &Ask) -> Grown<String>
     ensures { IfOk result (λ line. IsAskLine ask.now (string_bytes line)) }
 {
     let knows = fragments_text(alloc, ask.fragments())?;
@@ -32,7 +33,7 @@ fn ask_line(alloc: Global, ask: &Ask) -> Result<String, AllocError>
 }
 
 /// `receipt giver A version V of ITEM`
-fn receipt_line(alloc: Global, receipt: &Receipt) -> Result<String, AllocError>
+fn receipt_line(alloc: Global, receipt: &Receipt) -> Grown<String>
     ensures { IfOk result (λ line. string_bytes line ≡ line_of (receipt_words receipt.now)) }
 {
     let giver = receipt.giver;
@@ -41,7 +42,7 @@ fn receipt_line(alloc: Global, receipt: &Receipt) -> Result<String, AllocError>
 }
 
 /// The words of the header, and then what the record says.
-fn record_line(alloc: Global, sent: &Record) -> Result<String, AllocError>
+fn record_line(alloc: Global, sent: &Record) -> Grown<String>
     ensures { IfOk result (λ line. string_bytes line ≡ line_of (record_words sent.now)) }
 {
     let mut line = header_text(alloc, kind_of(sent.body()), sent.header())?;
@@ -65,7 +66,7 @@ pub(crate) fn kind_of(body: &Body) -> &'static str
 }
 
 /// `KIND source A stream N target T session N index I`
-fn header_text(alloc: Global, kind: &str, header: Header) -> Result<String, AllocError>
+fn header_text(alloc: Global, kind: &str, header: Header) -> Grown<String>
     ensures { IfOk result (λ text. string_bytes text ≡ joined_words (header_words kind.now header)) }
 {
     let (source, stream, target) = (header.source, header.stream, header.target);
@@ -76,7 +77,7 @@ fn header_text(alloc: Global, kind: &str, header: Header) -> Result<String, Allo
 }
 
 /// Adds what a record says, each word after a space.
-pub(crate) fn push_said(alloc: Global, line: &mut String, body: &Body) -> Result<(), AllocError>
+pub(crate) fn push_said(alloc: Global, line: &mut String, body: &Body) -> Grown<()>
     ensures { OnOk result (string_bytes line.new ≡ string_bytes line.old ++ after_spaces (said_words body.now)) }
 {
     match body {
@@ -91,7 +92,7 @@ pub(crate) fn push_said(alloc: Global, line: &mut String, body: &Body) -> Result
 }
 
 /// Adds ` V of ITEM`.
-fn push_version(line: &mut String, version: Version, item: ItemId) -> Result<(), AllocError>
+fn push_version(line: &mut String, version: Version, item: ItemId) -> Grown<()>
     ensures { OnOk result (string_bytes line.new ≡ string_bytes line.old ++ after_spaces (version_words version item)) }
 {
     let item = item.creator();
@@ -99,11 +100,7 @@ fn push_version(line: &mut String, version: Version, item: ItemId) -> Result<(),
 }
 
 /// Adds a fragment's text after a space.
-fn push_fragment(
-    alloc: Global,
-    line: &mut String,
-    fragment: &FrameFragment,
-) -> Result<(), AllocError>
+fn push_fragment(alloc: Global, line: &mut String, fragment: &FrameFragment) -> Grown<()>
     ensures { OnOk result (string_bytes line.new ≡ string_bytes line.old ++ codes " " ++ piece_text fragment.now) }
 {
     let text = fragment_text(alloc, fragment)?;
@@ -112,14 +109,14 @@ fn push_fragment(
 }
 
 /// The fragment's text: `all` or its items, a space, and its vector.
-fn fragment_text(alloc: Global, fragment: &FrameFragment) -> Result<String, AllocError>
+fn fragment_text(alloc: Global, fragment: &FrameFragment) -> Grown<String>
     ensures { IfOk result (λ text. string_bytes text ≡ piece_text fragment.now) }
 {
     knowledge_text(alloc, slice::from_ref(fragment.as_fragment()))
 }
 
 /// The fragments' texts with `; ` between them, or `-` where there is none.
-fn fragments_text(alloc: Global, fragments: &[FrameFragment]) -> Result<String, AllocError>
+fn fragments_text(alloc: Global, fragments: &[FrameFragment]) -> Grown<String>
     ensures { IfOk result (λ text. string_bytes text ≡ pieces_text fragments.now) }
 {
     let Some((first, others)) = fragments.split_first() else {

@@ -2,6 +2,7 @@
 ghost use Rattle.std.specs.Prelude.{◌≡◌, IfOk, ◌++◌, codes, string_bytes};
 ghost use Rattle.mr_script.specs.Holding.{heads_text, push_outs_text, spaced_versions, conflicts_text, feed_text, log_text, know_text};
 
+use crate::Grown;
 use crate::answer::push_entry;
 use mr_concise::{ConciseVector, knowledge_text};
 use mr_feed::Entry;
@@ -29,7 +30,7 @@ pub fn push_outs_line(
 }
 
 /// The line goes on with each version after a space, and ends.
-fn with_versions(mut line: String, revisions: &[Revision]) -> Result<String, AllocError>
+fn with_versions(mut line: String, revisions: &[Revision]) -> Grown<String>
     ensures { IfOk result (λ whole. string_bytes whole ≡ string_bytes line ++ spaced_versions revisions.now ++ codes "\n") }
 {
     for revision in revisions {
@@ -41,11 +42,7 @@ fn with_versions(mut line: String, revisions: &[Revision]) -> Result<String, All
 }
 
 /// `conflicts R:` and each item after a space.
-pub(crate) fn conflicts_line(
-    alloc: Global,
-    replica: Author,
-    items: &[ItemId],
-) -> Result<String, AllocError>
+pub(crate) fn conflicts_line(alloc: Global, replica: Author, items: &[ItemId]) -> Grown<String>
     ensures { IfOk result (λ line. string_bytes line ≡ conflicts_text replica items.now) }
 {
     let mut line = format!(in alloc; "conflicts {replica}:")?;
@@ -58,11 +55,7 @@ pub(crate) fn conflicts_line(
 }
 
 /// `feed R:` and each entry after a space: `+V` for a version that entered, `-V` for one that left.
-pub(crate) fn feed_line(
-    alloc: Global,
-    replica: Author,
-    entries: &[Entry],
-) -> Result<String, AllocError>
+pub(crate) fn feed_line(alloc: Global, replica: Author, entries: &[Entry]) -> Grown<String>
     ensures { IfOk result (λ line. string_bytes line ≡ feed_text replica entries.now) }
 {
     let mut line = format!(in alloc; "feed {replica}:")?;
@@ -75,7 +68,7 @@ pub(crate) fn feed_line(
 }
 
 /// `log R: N`: how many events the replica has admitted.
-pub(crate) fn log_line(alloc: Global, replica: Author, count: usize) -> Result<String, AllocError>
+pub(crate) fn log_line(alloc: Global, replica: Author, count: usize) -> Grown<String>
     ensures { IfOk result (λ line. string_bytes line ≡ log_text replica count) }
 {
     format!(in alloc; "log {replica}: {count}\n")
@@ -86,7 +79,7 @@ pub(crate) fn know_line(
     alloc: Global,
     replica: Author,
     fragments: &[Fragment<ConciseVector>],
-) -> Result<String, AllocError>
+) -> Grown<String>
     ensures { IfOk result (λ line. string_bytes line ≡ know_text replica fragments.now) }
 {
     let text = knowledge_text(alloc, fragments)?;

@@ -10,11 +10,12 @@ ghost use Rattle.mr_script.specs.Stage.{Adds, Begins, Does, InWorld, Stage.openi
 use crate::question::reply;
 use crate::single_event::answer_of_event;
 use crate::sync::sync_and_tell;
+use crate::{Done, Grown};
 use mr_command::{Command, LineFault, Pool, Question, Roster, Sync};
 use mr_forms::Knowledge;
 use mr_version::Author;
 use mr_world::{Event, Spec, SpecFault, World};
-use std::alloc::{AllocError, Global};
+use std::alloc::Global;
 use std::marker::Model;
 use std::mem;
 
@@ -107,7 +108,7 @@ impl<K: Knowledge> Interpreter<K> {
     }
 
     /// Runs a line of text.
-    fn text(&mut self, text: &str) -> Result<String, LineFault>
+    fn text(&mut self, text: &str) -> Done<String>
         ensures { TextDoes K.form self.old text.now (text_of result) self.new }
     {
         if is_skipped(text) {
@@ -118,7 +119,7 @@ impl<K: Knowledge> Interpreter<K> {
     }
 
     /// Does what a command says, and gives what it prints.
-    fn obey(&mut self, command: Command) -> Result<String, LineFault>
+    fn obey(&mut self, command: Command) -> Done<String>
         ensures { Does K.form self.old command (text_of result) self.new }
     {
         match command {
@@ -130,7 +131,7 @@ impl<K: Knowledge> Interpreter<K> {
     }
 
     /// Puts a replica behind those that are to be.
-    fn add_replica(&mut self, spec: Spec) -> Result<String, LineFault>
+    fn add_replica(&mut self, spec: Spec) -> Done<String>
         ensures { Adds self.old spec (text_of result) self.new }
     {
         match &mut self.stage {
@@ -142,7 +143,7 @@ impl<K: Knowledge> Interpreter<K> {
         }
     }
 
-    fn answer(&mut self, event: Event) -> Result<String, LineFault>
+    fn answer(&mut self, event: Event) -> Done<String>
         ensures { InWorld K.form (happens_told K.form event) self.old (text_of result) self.new }
     {
         let mut world = self.take_world()?;
@@ -151,7 +152,7 @@ impl<K: Knowledge> Interpreter<K> {
         told
     }
 
-    fn sync(&mut self, sync: Sync) -> Result<String, LineFault>
+    fn sync(&mut self, sync: Sync) -> Done<String>
         ensures { InWorld K.form (syncs_told K.form sync) self.old (text_of result) self.new }
     {
         let mut world = self.take_world()?;
@@ -160,18 +161,18 @@ impl<K: Knowledge> Interpreter<K> {
         told
     }
 
-    fn reply(&mut self, question: Question) -> Result<String, LineFault>
+    fn reply(&mut self, question: Question) -> Done<String>
         ensures { InWorld K.form (replies_told K.form question) self.old (text_of result) self.new }
     {
         let world = self.take_world()?;
-        let told = reply(self.alloc, &world, question);
+        let told = reply(self.alloc, &world, &question);
         self.stage = Stage::Running(world);
         told
     }
 
     /// Takes out the world that there is, or one that is made of the replicas that are to be: the caller
     /// puts it back. Nothing changes at a fault.
-    fn take_world(&mut self) -> Result<World<K>, LineFault>
+    fn take_world(&mut self) -> Done<World<K>>
         ensures world { Begins K.form self.old result }
         ensures unchanged { OnErr result (self.new ≡ self.old) }
     {
@@ -188,7 +189,7 @@ impl<K: Knowledge> Interpreter<K> {
 
 /// A world of these replicas, in which nothing has happened. `SameReplica`, `BadLimit` or `BadCapacity`
 /// where there can be none, and `OutOfMemory`.
-fn made_world<K: Knowledge>(alloc: Global, specs: &[Spec]) -> Result<World<K>, LineFault>
+fn made_world<K: Knowledge>(alloc: Global, specs: &[Spec]) -> Done<World<K>>
     ensures { made_of K.form specs.now result }
 {
     let specs = copied(alloc, specs)?;
@@ -199,7 +200,7 @@ fn made_world<K: Knowledge>(alloc: Global, specs: &[Spec]) -> Result<World<K>, L
 }
 
 /// Equal specifications.
-fn copied(alloc: Global, specs: &[Spec]) -> Result<Vec<Spec>, AllocError>
+fn copied(alloc: Global, specs: &[Spec]) -> Grown<Vec<Spec>>
     ensures { IfOk result (λ copies. copies.items ≡ specs.now) }
 {
     let mut copies = Vec::with_capacity(alloc, specs.len())?;

@@ -52,3 +52,13 @@ pub use output::Output;
 pub use script::{run_script, run_script_in, run_script_over, source_fault};
 pub use script_lines::ScriptLines;
 pub use source::{MAX_SCRIPT_BYTES, SourceFault};
+use std::alloc::AllocError;
+
+/// What is made, or that there is no memory for it.
+type Grown<T> = Result<T, AllocError>;
+
+/// What is done of a line, or its fault.
+type Done<T> = Result<T, LineFault>;
+
+/// What a script came to, or the fault that ended it.
+type Ran<T> = Result<T, ScriptFault>;

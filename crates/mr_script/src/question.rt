@@ -5,6 +5,7 @@ ghost use Rattle.mr_replica.specs.State.{held};
 ghost use Rattle.mr_world.specs.Kept.{replica_at};
 ghost use Rattle.mr_script.specs.Question.{replies, tells_conflicts, tells_held, tells_known, text_of, IsFrameAt};
 
+use crate::Done;
 use crate::answer::refused_line;
 use crate::bytes_line::bytes_line;
 use crate::holding::{conflicts_line, feed_line, heads_line, know_line, log_line, push_outs_line};
@@ -22,26 +23,26 @@ use std::alloc::Global;
 pub(crate) fn reply<K: Knowledge>(
     alloc: Global,
     world: &World<K>,
-    question: Question,
-) -> Result<String, LineFault>
-    ensures { replies K.form world.now question (text_of result) }
+    question: &Question,
+) -> Done<String>
+    ensures { replies K.form world.now question.now (text_of result) }
 {
     match question {
-        Question::Heads(id) => heads(alloc, world, id),
-        Question::PushOuts(id) => push_outs(alloc, world, id),
-        Question::Conflicts(id) => conflicts(alloc, world, id),
-        Question::Know(id) => know(alloc, world, id),
-        Question::Feed(id) => feed(alloc, world, id),
-        Question::Log(id) => log(alloc, world, id),
-        Question::Show(id, version) => show(alloc, world, id, version),
-        Question::Bytes(pool, number) => bytes(alloc, world, pool, number),
-        Question::Index(id, label) => Ok(index_line(alloc, world.answers(), id, label.as_str())?),
-        Question::Unseen(id) => Ok(unseen_line(alloc, world.answers(), id)?),
+        Question::Heads(id) => Ok(heads_line(alloc, *id, replica(world, *id)?.heads())?),
+        Question::PushOuts(id) => Ok(push_outs_line(alloc, *id, replica(world, *id)?.push_outs())?),
+        Question::Conflicts(id) => several_line(alloc, *id, replica(world, *id)?),
+        Question::Know(id) => known_line(alloc, *id, replica(world, *id)?),
+        Question::Feed(id) => Ok(feed_line(alloc, *id, replica(world, *id)?.feed())?),
+        Question::Log(id) => Ok(log_line(alloc, *id, replica(world, *id)?.log().len())?),
+        Question::Show(id, version) => held_line(alloc, replica(world, *id)?, *version),
+        Question::Bytes(pool, number) => bytes(alloc, world, *pool, *number),
+        Question::Index(id, label) => Ok(index_line(alloc, world.answers(), *id, label.as_str())?),
+        Question::Unseen(id) => Ok(unseen_line(alloc, world.answers(), *id)?),
     }
 }
 
 /// The replica of this id.
-fn replica<K: Knowledge>(world: &World<K>, id: Author) -> Result<&Replica<K>, LineFault>
+fn replica<K: Knowledge>(world: &World<K>, id: Author) -> Done<&Replica<K>>
     ensures { MatchResult result (λ replica. replica_at world.now.members id ≡ Some replica.now)
         (λ fault. (replica_at world.now.members id ≡ None) × (fault ≡ LineFault.NoSuchReplica)) }
 {
@@ -51,59 +52,7 @@ fn replica<K: Knowledge>(world: &World<K>, id: Author) -> Result<&Replica<K>, Li
     }
 }
 
-fn heads<K: Knowledge>(alloc: Global, world: &World<K>, id: Author) -> Result<String, LineFault>
-    ensures { replies K.form world.now (Question.Heads id) (text_of result) }
-{
-    Ok(heads_line(alloc, id, replica(world, id)?.heads())?)
-}
-
-fn push_outs<K: Knowledge>(alloc: Global, world: &World<K>, id: Author) -> Result<String, LineFault>
-    ensures { replies K.form world.now (Question.PushOuts id) (text_of result) }
-{
-    Ok(push_outs_line(alloc, id, replica(world, id)?.push_outs())?)
-}
-
-fn conflicts<K: Knowledge>(alloc: Global, world: &World<K>, id: Author) -> Result<String, LineFault>
-    ensures { replies K.form world.now (Question.Conflicts id) (text_of result) }
-{
-    several_line(alloc, id, replica(world, id)?)
-}
-
-fn know<K: Knowledge>(alloc: Global, world: &World<K>, id: Author) -> Result<String, LineFault>
-    ensures { replies K.form world.now (Question.Know id) (text_of result) }
-{
-    known_line(alloc, id, replica(world, id)?)
-}
-
-fn feed<K: Knowledge>(alloc: Global, world: &World<K>, id: Author) -> Result<String, LineFault>
-    ensures { replies K.form world.now (Question.Feed id) (text_of result) }
-{
-    Ok(feed_line(alloc, id, replica(world, id)?.feed())?)
-}
-
-fn log<K: Knowledge>(alloc: Global, world: &World<K>, id: Author) -> Result<String, LineFault>
-    ensures { replies K.form world.now (Question.Log id) (text_of result) }
-{
-    Ok(log_line(alloc, id, replica(world, id)?.log().len())?)
-}
-
-fn show<K: Knowledge>(
-    alloc: Global,
-    world: &World<K>,
-    id: Author,
-    version: Version,
-) -> Result<String, LineFault>
-    ensures { replies K.form world.now (Question.Show id version) (text_of result) }
-{
-    held_line(alloc, replica(world, id)?, version)
-}
-
-fn bytes<K: Knowledge>(
-    alloc: Global,
-    world: &World<K>,
-    pool: Pool,
-    number: u64,
-) -> Result<String, LineFault>
+fn bytes<K: Knowledge>(alloc: Global, world: &World<K>, pool: Pool, number: u64) -> Done<String>
     ensures { replies K.form world.now (Question.Bytes pool number) (text_of result) }
 {
     match frame(world, pool, number) {
@@ -124,11 +73,7 @@ fn frame<K: Knowledge>(world: &World<K>, pool: Pool, number: u64) -> Option<&[u8
 }
 
 /// The items of which the replica has several heads.
-fn several_line<K: Knowledge>(
-    alloc: Global,
-    id: Author,
-    replica: &Replica<K>,
-) -> Result<String, LineFault>
+fn several_line<K: Knowledge>(alloc: Global, id: Author, replica: &Replica<K>) -> Done<String>
     ensures { tells_conflicts id replica.now.heads (text_of result) }
 {
     let items = replica.conflicts()?;
@@ -136,11 +81,7 @@ fn several_line<K: Knowledge>(
 }
 
 /// What the replica tells of what it knows. A fragment that has no concise vector is a refusal.
-fn known_line<K: Knowledge>(
-    alloc: Global,
-    id: Author,
-    replica: &Replica<K>,
-) -> Result<String, LineFault>
+fn known_line<K: Knowledge>(alloc: Global, id: Author, replica: &Replica<K>) -> Done<String>
     ensures { tells_known id (K.form.known replica.now.knowledge) (K.form.is_part replica.now.knowledge) (text_of result) }
 {
     match replica.fragments() {
@@ -151,11 +92,7 @@ fn known_line<K: Knowledge>(
 }
 
 /// What the replica shows of a version.
-fn held_line<K: Knowledge>(
-    alloc: Global,
-    replica: &Replica<K>,
-    version: Version,
-) -> Result<String, LineFault>
+fn held_line<K: Knowledge>(alloc: Global, replica: &Replica<K>, version: Version) -> Done<String>
     ensures { tells_held (held replica.now version) (text_of result) }
 {
     match replica.held(version) {

@@ -3,9 +3,8 @@ ghost use Rattle.std.specs.Prelude.{◌≡◌, ◌≢◌, ◌⊎◌, ◌+◌, �
 ghost use Rattle.std.specs.Option.{option_map};
 ghost use Rattle.mr_script.specs.Fault.{fault_of_source, NumbersItsLine};
 ghost use Rattle.mr_script.specs.Leaving.{LeavesBehind, ScriptLeaves};
-ghost use Rattle.mr_script.specs.inner.Leaving.{NextLeaves};
-ghost use Rattle.mr_script.specs.Run.{Breaks, Prints, PrintsAll, PrintsSoFar, end_of};
-ghost use Rattle.mr_script.specs.inner.Run.{NextAnswer};
+ghost use Rattle.mr_script.specs.Run.{Breaks, PrintsAll, end_of};
+ghost use Rattle.mr_script.specs.inner.Run.{NextGoes, RanTo};
 ghost use Rattle.mr_script.specs.Script.{Accounts, looked_at, source_remaining};
 ghost use Rattle.mr_script.specs.inner.Waiting.{MayAsk};
 ghost use Rattle.mr_script.specs.Stage.{Stage.opening};
@@ -15,7 +14,7 @@ ghost use Rattle.mr_script.specs.declared.source.TheConstants.{MAX_SCRIPT_BYTES}
 use crate::interpreter::Interpreter;
 use crate::output::Output;
 use crate::source::{MAX_SCRIPT_BYTES, Source, SourceFault};
-use crate::{LineFault, ScriptFault};
+use crate::{LineFault, Ran, ScriptFault};
 use mr_forms::Knowledge;
 use std::alloc::Global;
 use std::io::{Read, Write};
@@ -87,11 +86,7 @@ pub fn run_script_in<K: Knowledge, R: Read + Drop>(
 }
 
 /// Writes what waits when the lines have run. A writer that has failed is left alone.
-fn finish<W: Write>(
-    ran: Result<(), ScriptFault>,
-    output: &mut Output,
-    writer: &mut W,
-) -> Result<(), ScriptFault>
+fn finish<W: Write>(ran: Result<(), ScriptFault>, output: &mut Output, writer: &mut W) -> Ran<()>
     ensures settles { Settles (W.contents writer.old) (W.contents writer.new) output.old output.new }
     ensures ran { result ≢ Err ScriptFault.Write → result ≡ ran }
     ensures or_ran { (result ≡ Err ScriptFault.Write) ⊎ (result ≡ ran) }
@@ -111,17 +106,14 @@ fn run_lines<K: Knowledge, R: Read + Drop, W: Write>(
     output: &mut Output,
     writer: &mut W,
     interpreter: &mut Interpreter<K>,
-) -> Result<(), ScriptFault>
+) -> Ran<()>
     requires empty { output.old ≡ [] }
     requires begins { interpreter.old ≡ opening [] }
     ensures too_long { result ≡ Err ScriptFault.TooLong
         → IfSome (R.remaining reader) (λ script. MAX_SCRIPT_BYTES < length script) }
     ensures line { IfErr result NumbersItsLine }
-    ensures prints { result ≢ Err ScriptFault.Write → IfSome (R.remaining reader)
-        (λ script. Prints K.form script (end_of result) (W.contents writer.old) (W.contents writer.new) output.new) }
-    ensures so_far { IfSome (R.remaining reader)
-        (λ script. PrintsSoFar K.form script (W.contents writer.old) (W.contents writer.new) output.new) }
-    ensures leaves { IfSome (R.remaining reader) (λ script. LeavesBehind K.form interpreter.old script result interpreter.new) }
+    ensures ran { IfSome (R.remaining reader) (λ script. RanTo K.form interpreter.old script result
+        (W.contents writer.old) (W.contents writer.new) output.new interpreter.new) }
 {
     let mut source = first_source(alloc, reader)?;
     let mut line = Vec::new(alloc);
@@ -137,10 +129,7 @@ fn run_lines<K: Knowledge, R: Read + Drop, W: Write>(
 }
 
 /// The script that the reader gives, before its first line.
-pub(crate) fn first_source<R: Read + Drop>(
-    alloc: Global,
-    reader: R,
-) -> Result<Source<R>, ScriptFault>
+pub(crate) fn first_source<R: Read + Drop>(alloc: Global, reader: R) -> Ran<Source<R>>
     ensures counted { IfOk result (λ source. Accounts (R.remaining reader)
         (source_remaining R.remaining source) source.taken) }
     ensures none_taken { IfOk result (λ source. source.taken ≡ 0) }
@@ -156,7 +145,7 @@ pub(crate) fn first_source<R: Read + Drop>(
 }
 
 /// Puts the answer to a line behind the output. Where there is no memory, nothing of it is added.
-fn push_answer(output: &mut Output, answer: &str, number: u64) -> Result<(), ScriptFault>
+fn push_answer(output: &mut Output, answer: &str, number: u64) -> Ran<()>
     ensures ok { OnOk result (output.new ≡ output.old ++ answer.now) }
     ensures unchanged { OnErr result (output.new ≡ output.old) }
     ensures fault { IfErr result (λ fault. fault ≡ ScriptFault.Line number LineFault.OutOfMemory) }
@@ -175,7 +164,7 @@ fn settle<R: Read + Drop, W: Write>(
     source: &Source<R>,
     output: &mut Output,
     writer: &mut W,
-) -> Result<(), ScriptFault>
+) -> Ran<()>
     ensures settles { Settles (W.contents writer.old) (W.contents writer.new) output.old output.new }
     ensures may_ask { OnOk result (MayAsk source.now output.new) }
     ensures fault { IfErr result (λ fault. fault ≡ ScriptFault.Write) }
@@ -187,7 +176,7 @@ fn settle<R: Read + Drop, W: Write>(
 }
 
 /// Writes all that waits.
-fn write_all<W: Write>(output: &mut Output, writer: &mut W) -> Result<(), ScriptFault>
+fn write_all<W: Write>(output: &mut Output, writer: &mut W) -> Ran<()>
     ensures settles { Settles (W.contents writer.old) (W.contents writer.new) output.old output.new }
     ensures empty { OnOk result (output.new ≡ []) }
     ensures fault { IfErr result (λ fault. fault ≡ ScriptFault.Write) }
@@ -206,7 +195,7 @@ fn next_answer<K: Knowledge, R: Read + Drop>(
     interpreter: &mut Interpreter<K>,
     line: &mut Vec<u8>,
     number: u64,
-) -> Result<Option<String>, ScriptFault>
+) -> Ran<Option<String>>
     requires may_ask { MayAsk source.old _waiting.now }
     requires within { source.old.taken ≤ MAX_SCRIPT_BYTES }
     ensures few { OnOk result (source.new.taken ≤ MAX_SCRIPT_BYTES) }
@@ -219,11 +208,8 @@ fn next_answer<K: Knowledge, R: Read + Drop>(
         → result ≡ Err ScriptFault.TooLong → IfSome script (λ bytes. MAX_SCRIPT_BYTES < length bytes) }
     ensures line { 1 ≤ number → number ≤ MAX_SCRIPT_BYTES + 1 → IfErr result NumbersItsLine }
     ensures no_write { result ≢ Err ScriptFault.Write }
-    ensures answer { IfSome (source_remaining R.remaining source.old) (λ bytes.
-        NextAnswer K.form interpreter.old number (MAX_SCRIPT_BYTES - source.old.taken) bytes result interpreter.new
-        (source_remaining R.remaining source.new) (MAX_SCRIPT_BYTES - source.new.taken)) }
-    ensures leaves { IfSome (source_remaining R.remaining source.old) (λ bytes.
-        NextLeaves K.form interpreter.old number (MAX_SCRIPT_BYTES - source.old.taken) bytes result interpreter.new
+    ensures goes { IfSome (source_remaining R.remaining source.old) (λ bytes.
+        NextGoes K.form interpreter.old number (MAX_SCRIPT_BYTES - source.old.taken) bytes result interpreter.new
         (source_remaining R.remaining source.new) (MAX_SCRIPT_BYTES - source.new.taken)) }
 {
     match source.next_line(line) {

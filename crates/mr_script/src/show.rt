@@ -2,13 +2,14 @@
 ghost use Rattle.std.specs.Prelude.{◌≡◌, IfOk, OnOk, ◌++◌, map, codes, string_bytes};
 ghost use Rattle.mr_script.specs.Show.{flags_text, joined, subject_text, shown_words, Shows};
 
+use crate::Grown;
 use mr_mail::{Flags, Label};
 use mr_replica::Revision;
 use mr_version::Version;
-use std::alloc::{AllocError, Global};
+use std::alloc::Global;
 
 /// `not held`
-pub(crate) fn not_held_line(alloc: Global) -> Result<String, AllocError>
+pub(crate) fn not_held_line(alloc: Global) -> Grown<String>
     ensures { IfOk result (λ line. string_bytes line ≡ codes "not held\n") }
 {
     String::from_str(alloc, "not held\n")
@@ -16,7 +17,7 @@ pub(crate) fn not_held_line(alloc: Global) -> Result<String, AllocError>
 
 /// `show V LABELS FLAGS DATE FROM SUBJECT`. An empty subject has no space before it, and the body is
 /// not shown.
-pub(crate) fn show_line(alloc: Global, revision: &Revision) -> Result<String, AllocError>
+pub(crate) fn show_line(alloc: Global, revision: &Revision) -> Grown<String>
     ensures { IfOk result (λ line. Shows revision.now (string_bytes line)) }
 {
     let message = revision.message();
@@ -45,7 +46,7 @@ fn show_words(
     flags: &str,
     date: &str,
     from: &str,
-) -> Result<String, AllocError>
+) -> Grown<String>
     ensures { IfOk result (λ line. string_bytes line
         ≡ shown_words version labels.now flags.now date.now from.now) }
 {
@@ -53,7 +54,7 @@ fn show_words(
 }
 
 /// Adds a subject after a space, if it is not empty.
-fn push_subject(line: &mut String, subject: &str) -> Result<(), AllocError>
+fn push_subject(line: &mut String, subject: &str) -> Grown<()>
     ensures { OnOk result
         (string_bytes line.new ≡ string_bytes line.old ++ subject_text subject.now) }
 {
@@ -65,7 +66,7 @@ fn push_subject(line: &mut String, subject: &str) -> Result<(), AllocError>
 }
 
 /// The labels joined by `,`, or a dot where there is none.
-fn joined_labels(alloc: Global, labels: &[Label]) -> Result<String, AllocError>
+fn joined_labels(alloc: Global, labels: &[Label]) -> Grown<String>
     ensures { IfOk result (λ text. string_bytes text ≡ joined (codes ",") labels.now) }
 {
     let mut texts = Vec::with_capacity(alloc, labels.len())?;
@@ -76,7 +77,7 @@ fn joined_labels(alloc: Global, labels: &[Label]) -> Result<String, AllocError>
 }
 
 /// The names of the flags joined by `+`, or a dot where there is none.
-fn joined_flags(alloc: Global, flags: Flags) -> Result<String, AllocError>
+fn joined_flags(alloc: Global, flags: Flags) -> Grown<String>
     ensures { IfOk result (λ text. string_bytes text ≡ flags_text flags) }
 {
     let set = flags.list(alloc)?;
@@ -88,7 +89,7 @@ fn joined_flags(alloc: Global, flags: Flags) -> Result<String, AllocError>
 }
 
 /// The texts with the separator between each two, or a dot where there is none.
-fn joined_text(alloc: Global, texts: &[&str], separator: &str) -> Result<String, AllocError>
+fn joined_text(alloc: Global, texts: &[&str], separator: &str) -> Grown<String>
     ensures { IfOk result (λ text. string_bytes text
         ≡ joined separator.now (map (λ t. t.now) texts.now)) }
 {

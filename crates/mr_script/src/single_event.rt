@@ -5,6 +5,7 @@ ghost use Rattle.mr_script.specs.Fault.{fault_of_stop};
 ghost use Rattle.mr_script.specs.Question.{text_of};
 ghost use Rattle.mr_script.specs.Stage.{happens_told, sizes_of};
 
+use crate::Done;
 use crate::answer::{PoolSizes, answer_line};
 use mr_command::LineFault;
 use mr_forms::Knowledge;
@@ -13,7 +14,7 @@ use std::alloc::Global;
 
 /// Lets the event happen. `NoSuchReplica` and `NoSuchFrame` where it names what isn't there, and
 /// `OutOfMemory`: then nothing has changed.
-pub(crate) fn let_happen<K: Knowledge>(world: &mut World<K>, event: Event) -> Result<(), LineFault>
+pub(crate) fn let_happen<K: Knowledge>(world: &mut World<K>, event: Event) -> Done<()>
     ensures { happens_noted K.form event world.old result world.new }
 {
     match world.happen(event) {
@@ -28,7 +29,7 @@ pub(crate) fn answer_of_event<K: Knowledge>(
     alloc: Global,
     world: &mut World<K>,
     event: Event,
-) -> Result<String, LineFault>
+) -> Done<String>
     ensures { happens_told K.form event world.old (text_of result) world.new }
 {
     let_happen(world, event)?;

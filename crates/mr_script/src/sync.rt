@@ -5,9 +5,10 @@ ghost use Rattle.mr_script.specs.Stage.{syncs_told};
 ghost use Rattle.mr_script.specs.Sync.{Draws, OpensSession, OpensStream, Takes, Rounds, answers, closes, draws, goes_through, outcome, pulls, receives, round, streams, syncs, told_by};
 ghost use Rattle.mr_script.specs.inner.Sync.{MayOpenSession, MayOpenStream, MayDraw, MayTake, counts_with};
 
+use crate::Done;
 use crate::single_event::{let_happen, newest};
 use crate::sync_line::{SyncCounts, SyncEnd, sync_line};
-use mr_command::{LineFault, Sync};
+use mr_command::Sync;
 use mr_forms::Knowledge;
 use mr_replica::{Refusal, Reply};
 use mr_wire::Body;
@@ -43,7 +44,7 @@ pub(crate) fn sync_and_tell<K: Knowledge>(
     alloc: Global,
     world: &mut World<K>,
     sync: Sync,
-) -> Result<String, LineFault>
+) -> Done<String>
     ensures { syncs_told K.form sync world.old (text_of result) world.new }
 {
     match run_sync(world, &sync) {
@@ -53,7 +54,7 @@ pub(crate) fn sync_and_tell<K: Knowledge>(
 }
 
 /// Opens a session, and goes on with it where it was opened.
-fn run_sync<K: Knowledge>(world: &mut World<K>, sync: &Sync) -> Result<Outcome, LineFault>
+fn run_sync<K: Knowledge>(world: &mut World<K>, sync: &Sync) -> Done<Outcome>
     ensures { syncs K.form sync.now world.old result world.new }
 {
     match pull(world, sync)? {
@@ -64,11 +65,7 @@ fn run_sync<K: Knowledge>(world: &mut World<K>, sync: &Sync) -> Result<Outcome, 
 
 /// Opens a stream for the session, and goes on with it where it was opened. Where it wasn't, the session
 /// is cut.
-fn run_session<K: Knowledge>(
-    world: &mut World<K>,
-    sync: &Sync,
-    session: u64,
-) -> Result<Outcome, LineFault>
+fn run_session<K: Knowledge>(world: &mut World<K>, sync: &Sync, session: u64) -> Done<Outcome>
     ensures { goes_through K.form sync.now (Ok session) world.old result world.new }
 {
     match answer(world, sync)? {
@@ -86,7 +83,7 @@ fn run_stream<K: Knowledge>(
     sync: &Sync,
     session: u64,
     stream: u64,
-) -> Result<Outcome, LineFault>
+) -> Done<Outcome>
     ensures { streams K.form sync.now session (Ok stream) world.old result world.new }
 {
     match take_records(world, sync, stream) {
@@ -103,7 +100,7 @@ fn close<K: Knowledge>(
     stream: u64,
     counts: SyncCounts,
     end: SyncEnd,
-) -> Result<Outcome, LineFault>
+) -> Done<Outcome>
     ensures { closes K.form sync.now session stream counts end world.old result world.new }
 {
     if !matches!(&end, SyncEnd::Finished) {
@@ -114,11 +111,7 @@ fn close<K: Knowledge>(
 }
 
 /// Draws records and has them taken, up to a round that ends the sync, or to as many as may be taken.
-fn take_records<K: Knowledge>(
-    world: &mut World<K>,
-    sync: &Sync,
-    stream: u64,
-) -> Result<Outcome, LineFault>
+fn take_records<K: Knowledge>(world: &mut World<K>, sync: &Sync, stream: u64) -> Done<Outcome>
     ensures { Rounds K.form sync.now stream world.old result world.new }
 {
     let mut counts = SyncCounts {
@@ -138,11 +131,7 @@ fn take_records<K: Knowledge>(
 }
 
 /// One round: a record is drawn, and comes to the target.
-fn take_record<K: Knowledge>(
-    world: &mut World<K>,
-    sync: &Sync,
-    stream: u64,
-) -> Result<Round, LineFault>
+fn take_record<K: Knowledge>(world: &mut World<K>, sync: &Sync, stream: u64) -> Done<Round>
     ensures { round K.form sync.now stream world.old result world.new }
 {
     match draw(world, sync, stream)? {
@@ -188,7 +177,7 @@ impl Outcome {
 // ---- single events
 
 /// The target asks; the session that it opened, or its refusal.
-fn pull<K: Knowledge>(world: &mut World<K>, sync: &Sync) -> Result<Result<u64, Refusal>, LineFault>
+fn pull<K: Knowledge>(world: &mut World<K>, sync: &Sync) -> Done<Result<u64, Refusal>>
     ensures { pulls K.form sync.now world.old result world.new }
 {
     let_happen(world, Act::Pull.by(sync.target))?;
@@ -196,10 +185,7 @@ fn pull<K: Knowledge>(world: &mut World<K>, sync: &Sync) -> Result<Result<u64, R
 }
 
 /// The source answers the newest request; the stream that it opened, or its refusal.
-fn answer<K: Knowledge>(
-    world: &mut World<K>,
-    sync: &Sync,
-) -> Result<Result<u64, Refusal>, LineFault>
+fn answer<K: Knowledge>(world: &mut World<K>, sync: &Sync) -> Done<Result<u64, Refusal>>
     ensures { answers K.form sync.now world.old result world.new }
 {
     let newest_ask = world.ask_count();
@@ -208,11 +194,7 @@ fn answer<K: Knowledge>(
 }
 
 /// The source gives the stream's next record; what it tells, or the refusal.
-fn draw<K: Knowledge>(
-    world: &mut World<K>,
-    sync: &Sync,
-    stream: u64,
-) -> Result<Result<Told, Refusal>, LineFault>
+fn draw<K: Knowledge>(world: &mut World<K>, sync: &Sync, stream: u64) -> Done<Result<Told, Refusal>>
     ensures { draws K.form sync.now stream world.old result world.new }
 {
     let_happen(world, Act::Next(stream).by(sync.source))?;
@@ -220,7 +202,7 @@ fn draw<K: Knowledge>(
 }
 
 /// The newest record, which tells this, comes to the target.
-fn receive<K: Knowledge>(world: &mut World<K>, sync: &Sync, told: Told) -> Result<Round, LineFault>
+fn receive<K: Knowledge>(world: &mut World<K>, sync: &Sync, told: Told) -> Done<Round>
     ensures { receives K.form sync.now told world.old result world.new }
 {
     let newest_record = world.record_count();

@@ -2,10 +2,11 @@
 ghost use Rattle.std.specs.Prelude.{◌≡◌, IfOk, OnOk, ◌++◌, string_bytes};
 ghost use Rattle.mr_script.specs.Answer.{sync_text, counted_text, ending_text};
 
+use crate::Grown;
 use crate::answer::push_refusal;
 use mr_command::Sync;
 use mr_replica::Refusal;
-use std::alloc::{AllocError, Global};
+use std::alloc::Global;
 
 /// How many items and move-outs the target of a sync took, or knew already.
 #[derive(Clone, Copy, Debug, PartialEq, Eq)]
@@ -31,7 +32,7 @@ pub(crate) fn sync_line(
     sync: Sync,
     counts: SyncCounts,
     ending: SyncEnd,
-) -> Result<String, AllocError>
+) -> Grown<String>
     ensures { IfOk result (λ line. string_bytes line ≡ sync_text sync counts ending) }
 {
     let mut line = counted(alloc, sync, counts)?;
@@ -41,7 +42,7 @@ pub(crate) fn sync_line(
 }
 
 /// `sync T from S: items I moveouts M `
-fn counted(alloc: Global, sync: Sync, counts: SyncCounts) -> Result<String, AllocError>
+fn counted(alloc: Global, sync: Sync, counts: SyncCounts) -> Grown<String>
     ensures { IfOk result (λ text. string_bytes text ≡ counted_text sync counts) }
 {
     let Sync { target, source, .. } = sync;
@@ -50,7 +51,7 @@ fn counted(alloc: Global, sync: Sync, counts: SyncCounts) -> Result<String, Allo
 }
 
 /// Adds `finished`, `cut`, or the refusal.
-fn push_ending(line: &mut String, ending: SyncEnd) -> Result<(), AllocError>
+fn push_ending(line: &mut String, ending: SyncEnd) -> Grown<()>
     ensures { OnOk result (string_bytes line.new ≡ string_bytes line.old ++ ending_text ending) }
 {
     match ending {

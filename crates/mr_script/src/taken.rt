@@ -6,6 +6,7 @@ ghost use Rattle.mr_model.specs.declared.event.Subscriber.TheVariants as subscri
 ghost use Rattle.mr_script.specs.Holding.{spaced_names};
 ghost use Rattle.mr_script.specs.Taken.{is_take, taken_at, taken_of, cards_of, indexed, index_text, Lists, IsIndexLine, IsUnseenLine};
 
+use crate::Grown;
 use mr_feed::Entry;
 use mr_mail::Label;
 use mr_subs::{Fold, Indexer, Notifier, Subscriber as Follower};
@@ -20,7 +21,7 @@ pub(crate) fn index_line(
     answers: &[Answered],
     id: Author,
     label: &str,
-) -> Result<String, AllocError>
+) -> Grown<String>
     ensures { IfOk result (λ line. IsIndexLine answers.now id label.now (string_bytes line)) }
 {
     let versions = versions_under(alloc, answers, id, label)?;
@@ -28,19 +29,14 @@ pub(crate) fn index_line(
 }
 
 /// `index R LABEL:` and each version after a space.
-fn versions_line(
-    alloc: Global,
-    id: Author,
-    label: &str,
-    versions: &[Version],
-) -> Result<String, AllocError>
+fn versions_line(alloc: Global, id: Author, label: &str, versions: &[Version]) -> Grown<String>
     ensures { IfOk result (λ line. string_bytes line ≡ index_text id label.now versions.now) }
 {
     with_names(format!(in alloc; "index {id} {label}:")?, versions)
 }
 
 /// The line goes on with each version after a space, and ends.
-fn with_names(mut line: String, versions: &[Version]) -> Result<String, AllocError>
+fn with_names(mut line: String, versions: &[Version]) -> Grown<String>
     ensures { IfOk result (λ whole. string_bytes whole ≡ string_bytes line ++ spaced_names versions.now ++ codes "\n") }
 {
     for version in versions {
@@ -56,7 +52,7 @@ fn versions_under(
     answers: &[Answered],
     id: Author,
     word: &str,
-) -> Result<Vec<Version>, AllocError>
+) -> Grown<Vec<Version>>
     ensures { IfOk result (λ versions.
         Lists (indexed (cards_of answers.now id subscriber.Indexer) word.now) versions.items) }
 {
@@ -68,11 +64,7 @@ fn versions_under(
 }
 
 /// `unseen R: N`: how many unseen versions the replica's notifier has. It costs a walk over the answers.
-pub(crate) fn unseen_line(
-    alloc: Global,
-    answers: &[Answered],
-    id: Author,
-) -> Result<String, AllocError>
+pub(crate) fn unseen_line(alloc: Global, answers: &[Answered], id: Author) -> Grown<String>
     ensures { IfOk result (λ line. IsUnseenLine answers.now id (string_bytes line)) }
 {
     let notifier: Notifier = follower_of(alloc, answers, id, Subscriber::Notifier)?;
@@ -86,7 +78,7 @@ fn follower_of<F: Fold>(
     answers: &[Answered],
     id: Author,
     subscriber: Subscriber,
-) -> Result<Follower<F>, AllocError>
+) -> Grown<Follower<F>>
     ensures { IfOk result (λ follower. ShowsFold F.shows follower.fold (taken_of answers.now id subscriber)) }
 {
     let mut follower = Follower::new(alloc);
@@ -102,7 +94,7 @@ fn follow<F: Fold>(
     answered: &Answered,
     id: Author,
     subscriber: Subscriber,
-) -> Result<(), AllocError>
+) -> Grown<()>
     requires { follower.old.kept ≡ None }
     ensures ok { OnOk result (Applies F.shows follower.old.fold (option_to_list (taken_at id subscriber answered.now)) follower.new.fold) }
     ensures none_kept { OnOk result (follower.new.kept ≡ None) }

@@ -1,7 +1,5 @@
 use Rattle.std.proofs.Common.{◌≡◌, length}
-use Rattle.std.specs.List.{list_all}
-use Rattle.mr_mail.specs.Label.{is_label}
-use Rattle.mr_command.specs.List.{pieces_of}
+use Rattle.mr_command.proofs.Names.{is_label, list_all, pieces_of}
 use Rattle.mr_command.proofs.lists.are_labels.Given as goal
 
 abbrev pub invariant-loop-piece : goal.invariant-loop-piece

@@ -1,8 +1,5 @@
 use Rattle.std.proofs.Common.{◌≡◌, ◌∙◌, true, false, [], ◌∷◌, length, map, refl, sym, ap, arith}
-use Rattle.std.proofs.lemmas.Bool.{false≢true}
-use Rattle.std.proofs.lemmas.List.{length-map, length-append, map-append}
-use Rattle.mr_mail.specs.Label.{has_label}
-use Rattle.mr_command.specs.List.{pieces_of}
+use Rattle.mr_command.proofs.Names.{false≢true, has_label, length-append, length-map, map-append, pieces_of}
 use Rattle.mr_command.proofs.LabelLemmas.{seen-begin, seen-again, seen-more, seen-many, seen-all, has_lent}
 use Rattle.mr_command.proofs.lists.are_too_many_labels.Goals as goal
 

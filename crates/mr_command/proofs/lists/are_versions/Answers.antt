@@ -1,6 +1,5 @@
 use Rattle.std.proofs.Common.{◌∙◌, [], ◌∷◌, ◌++◌, ap}
-use Rattle.mr_version.specs.Name.{name_text}
-use Rattle.mr_command.specs.List.{pieces_of, IsVersionName}
+use Rattle.mr_command.proofs.Names.{IsVersionName, name_text, pieces_of}
 use Rattle.mr_command.proofs.PieceLemmas.{named-more, named-none, read_some, read_none}
 use Rattle.mr_command.proofs.lists.are_versions.Goals as goal
 

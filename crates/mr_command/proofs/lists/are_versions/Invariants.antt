@@ -1,6 +1,5 @@
 use Rattle.std.proofs.Common.{List, length}
-use Rattle.mr_version.specs.Name.{Name, name_text}
-use Rattle.mr_command.specs.List.{pieces_of, IsVersionName}
+use Rattle.mr_command.proofs.Names.{IsVersionName, Name, name_text, pieces_of}
 use Rattle.mr_command.proofs.PieceLemmas.{NamedSoFar}
 use Rattle.mr_command.proofs.lists.are_versions.Given as goal
 

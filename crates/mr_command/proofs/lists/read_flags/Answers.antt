@@ -1,8 +1,6 @@
 use Rattle.std.proofs.Common.{◌∙◌, [], ◌∷◌, ◌++◌, refl, sym, ap}
 use Rattle.std.specs.Int.RustNames.{bit_or}
-use Rattle.std.proofs.lemmas.List.Sums.{fold-append}
-use Rattle.mr_mail.specs.Flag.{flag_name, bit_of}
-use Rattle.mr_command.specs.List.{pieces_of}
+use Rattle.mr_command.proofs.Names.{bit_of, flag_name, fold-append, pieces_of}
 use Rattle.mr_command.proofs.PieceLemmas.{named-more, named-none, all_any}
 use Rattle.mr_command.proofs.lists.read_flags.Goals as goal
 

@@ -1,7 +1,6 @@
 use Rattle.std.proofs.Common.{◌≡◌, List, length}
 use Rattle.mr_mail.specs.declared.flags.Flag.{Flag}
-use Rattle.mr_mail.specs.Flag.{flag_name}
-use Rattle.mr_command.specs.List.{pieces_of, united}
+use Rattle.mr_command.proofs.Names.{flag_name, pieces_of, united}
 use Rattle.mr_command.proofs.PieceLemmas.{NamedSoFar}
 use Rattle.mr_command.proofs.lists.read_flags.Given as goal
 

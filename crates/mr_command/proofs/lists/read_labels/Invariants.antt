@@ -1,6 +1,5 @@
 use Rattle.std.proofs.Common.{◌≡◌, ◌++◌, length}
-use Rattle.mr_mail.specs.Label.{texts_of}
-use Rattle.mr_command.specs.List.{pieces_of}
+use Rattle.mr_command.proofs.Names.{pieces_of, texts_of}
 use Rattle.mr_command.proofs.lists.read_labels.Given as goal
 
 abbrev pub invariant-loop-piece : goal.invariant-loop-piece

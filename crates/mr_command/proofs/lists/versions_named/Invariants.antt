@@ -1,6 +1,5 @@
 use Rattle.std.proofs.Common.{length}
-use Rattle.mr_version.specs.Name.{name_text}
-use Rattle.mr_command.specs.List.{pieces_of, IsVersionName}
+use Rattle.mr_command.proofs.Names.{IsVersionName, name_text, pieces_of}
 use Rattle.mr_command.proofs.PieceLemmas.{NamedSoFar}
 use Rattle.mr_command.proofs.lists.versions_named.Given as goal
 

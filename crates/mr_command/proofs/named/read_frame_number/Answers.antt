@@ -1,8 +1,6 @@
 use Rattle.std.proofs.Common.{◌<◌, ◌∙◌, ◌∷◌, None, ap, sym, refl, lit<}
 use Rattle.std.specs.Fmt.{decimal}
-use Rattle.std.proofs.lemmas.Str.Pattern.{strip_prefix_char}
-use Rattle.mr_command.specs.declared.pool.Pool.{Pool}
-use Rattle.mr_command.specs.declared.pool.Pool.TheVariants.{Asks, Records, Receipts}
+use Rattle.mr_command.proofs.Names.{Asks, Pool, Receipts, Records, strip_prefix_char}
 use Rattle.mr_command.specs.Pool.{letter_of}
 use Rattle.mr_command.proofs.named.read_frame_number.Goals as goal
 

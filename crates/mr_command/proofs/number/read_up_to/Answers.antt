@@ -1,6 +1,5 @@
 use Rattle.std.proofs.Common.{◌&&◌, nat_le, refl, arith}
-use Rattle.std.proofs.lemmas.Bool.Decides.{nat_tests}
-use Rattle.mr_command.specs.Reading.Both.{goes_on}
+use Rattle.mr_command.proofs.Names.{goes_on, nat_tests}
 use Rattle.mr_command.proofs.Readings.{choose-true, choose-false, ends_at}
 use Rattle.mr_command.proofs.number.read_up_to.Goals as goal
 

@@ -9,13 +9,13 @@ pub returns-in-pull : goal.returns-in-pull
 returns-in-pull g c = rw c.in-pull.is (mapped _ _ _ c.map-in-pull.ensures.cases (λ x y made. search rules) c.read_alone-in-pull.ensures)
 
 pub returns-in-answer : goal.returns-in-answer
-returns-in-answer g c = rw c.in-answer.is (mapped _ _ _ c.map-in-answer.ensures.cases (λ x y made. search rules) c.read_framed-read.ensures)
+returns-in-answer g c = rw c.in-answer.is (mapped _ _ _ c.map-in-answer.ensures.cases (λ x y made. search rules) c.read_framed.ensures)
 
 pub returns-in-next : goal.returns-in-next
 returns-in-next g c = rw c.in-next.is (mapped _ _ _ c.map-in-next.ensures.cases (λ x y made. search rules) c.read_numbered.ensures)
 
 pub returns-in-receive : goal.returns-in-receive
-returns-in-receive g c = rw c.in-receive.is (mapped _ _ _ c.map-in-receive.ensures.cases (λ x y made. search rules) c.read_framed-read-in-receive.ensures)
+returns-in-receive g c = rw c.in-receive.is (mapped _ _ _ c.map-in-receive.ensures.cases (λ x y made. search rules) c.read_framed-in-receive.ensures)
 
 pub returns-in-part : goal.returns-in-part
 returns-in-part g c = rw c.in-part.is (mapped _ _ _ c.map-in-part.ensures.cases (λ x y made. search rules) c.read_part.ensures)
@@ -39,4 +39,4 @@ pub returns-in-vouch : goal.returns-in-vouch
 returns-in-vouch g c = rw c.in-vouch.is (mapped _ _ _ c.map-in-vouch.ensures.cases (λ x y made. search rules) c.read_versioned.ensures)
 
 pub returns-in-release : goal.returns-in-release
-returns-in-release g c = rw c.in-release.is (mapped _ _ _ c.map-in-release.ensures.cases (λ x y made. search rules) c.read_framed-read-in-release.ensures)
+returns-in-release g c = rw c.in-release.is (mapped _ _ _ c.map-in-release.ensures.cases (λ x y made. search rules) c.read_framed-in-release.ensures)

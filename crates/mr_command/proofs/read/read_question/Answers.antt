@@ -21,7 +21,7 @@ pub returns-in-log : goal.returns-in-log
 returns-in-log g c = rw c.in-log.is (mapped _ _ _ c.map-in-log.ensures.cases (λ x y made. search rules) c.read_alone-in-log.ensures)
 
 pub returns-in-show : goal.returns-in-show
-returns-in-show g c = rw c.in-show.is (mapped _ _ _ c.map-in-show.ensures.cases (λ x y made. search rules) c.read_versioned-read.ensures)
+returns-in-show g c = rw c.in-show.is (mapped _ _ _ c.map-in-show.ensures.cases (λ x y made. search rules) c.read_versioned.ensures)
 
 pub returns-in-bytes : goal.returns-in-bytes
 returns-in-bytes g c = rw c.in-bytes.is (mapped _ _ _ c.map-in-bytes.ensures.cases (λ x y made. search rules) c.read_bytes.ensures)

@@ -1,6 +1,5 @@
 use Rattle.std.proofs.Common.{refl}
-use Rattle.std.specs.Option.{option_copied}
-use Rattle.mr_command.specs.Reading.Both.{goes_on}
+use Rattle.mr_command.proofs.Names.{goes_on, option_copied}
 use Rattle.mr_command.proofs.Readings.{ends_at}
 use Rattle.mr_command.proofs.read.read_sync.Goals as goal
 

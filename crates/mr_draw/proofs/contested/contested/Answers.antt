@@ -1,7 +1,5 @@
 use Rattle.std.proofs.Common.{◌≡◌, ◌+◌, ◌∙◌, ap, sym, ◌++◌, append-nil, arith, flat_map}
-use Rattle.mr_version.specs.declared.author.TheConstants.{AUTHORS}
-use Rattle.mr_draw.specs.Contested.{merged_by, rivals_at}
-use Rattle.mr_draw.specs.Lanes.{below}
+use Rattle.mr_draw.proofs.Names.{AUTHORS, below, merged_by, rivals_at}
 use Rattle.mr_draw.proofs.ListLemmas.{flat_map-grown}
 use Rattle.mr_draw.proofs.PictureLemmas.{below-more}
 use Rattle.mr_draw.proofs.contested.contested.Goals as goal

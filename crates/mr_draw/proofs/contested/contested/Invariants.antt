@@ -1,6 +1,5 @@
 use Rattle.std.proofs.Common.{◌≡◌, ◌++◌, flat_map}
-use Rattle.mr_draw.specs.Contested.{merged_by, rivals_at}
-use Rattle.mr_draw.specs.Lanes.{below}
+use Rattle.mr_draw.proofs.Names.{below, merged_by, rivals_at}
 use Rattle.mr_draw.proofs.contested.contested.Given as goal
 
 -- what was merged, and the rivals of the replicas of the ids so far

@@ -1,7 +1,5 @@
 use Rattle.std.proofs.Common.{◌≡◌, ◌+◌, ◌∙◌, ap, sym, if◌then◌else◌, [], ◌∷◌, ◌++◌, take, arith}
-use Rattle.std.proofs.lemmas.List.{take_more}
-use Rattle.mr_draw.specs.Ends.{is_of_stream}
-use Rattle.mr_draw.specs.Happened.{Happened}
+use Rattle.mr_draw.proofs.Names.{Happened, is_of_stream, take_more}
 use Rattle.mr_draw.proofs.EndLemmas.{last_of_stream-pushed}
 use Rattle.mr_draw.proofs.ends.last_row_of_band.Goals.{then-is_of_stream, else-is_of_stream}
 use Rattle.mr_draw.proofs.ends.last_row_of_band.Goals as goal

@@ -1,7 +1,6 @@
 use Rattle.std.proofs.Common.{◌++◌, flat_map, sym, ap, ◌∙◌, map-id, string_bytes}
-use Rattle.std.proofs.lemmas.Iterator.{YieldsList-from_chars}
+use Rattle.mr_draw.proofs.Names.{YieldsList-from_chars, entity}
 use Rattle.std.proofs.lemmas.Iterator.Consumers.{YieldsList-end}
-use Rattle.mr_draw.specs.Escape.{entity}
 use Rattle.mr_draw.proofs.escape.push_escaped.Goals as goal
 
 pub returns : goal.returns

@@ -1,6 +1,5 @@
 use Rattle.std.proofs.Common.{◌≡◌, ◌+◌, ◌∙◌, ap, sym, [], ◌∷◌, ◌++◌, take, arith}
-use Rattle.std.proofs.lemmas.List.{take_more}
-use Rattle.mr_draw.specs.Happened.{Happened}
+use Rattle.mr_draw.proofs.Names.{Happened, take_more}
 use Rattle.mr_draw.proofs.PictureLemmas.{marks-pushed}
 use Rattle.mr_draw.proofs.marks.marks.Goals as goal
 

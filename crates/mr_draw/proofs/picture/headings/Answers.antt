@@ -1,7 +1,5 @@
 use Rattle.std.proofs.Common.{◌≡◌, ◌+◌, ◌∙◌, ap, sym, [], ◌∷◌, ◌++◌, length, map, take, arith}
-use Rattle.std.proofs.lemmas.List.{take_more}
-use Rattle.std.proofs.lemmas.List.Elements.{All-push}
-use Rattle.mr_draw.specs.Picture.{HasFilter, IsWritten}
+use Rattle.mr_draw.proofs.Names.{All-push, HasFilter, IsWritten, take_more}
 use Rattle.mr_draw.proofs.PictureLemmas.{names-pushed}
 use Rattle.mr_draw.proofs.picture.headings.Goals as goal
 

@@ -1,8 +1,5 @@
 use Rattle.std.proofs.Common.{◌≡◌, ◌≤◌, ◌+◌, ◌∙◌, ap, sym, subst, ◌++◌, arith, append-nil, length}
-use Rattle.std.specs.List.{filter_map}
-use Rattle.std.specs.Option.{option_to_list}
-use Rattle.mr_version.specs.declared.author.TheConstants.{AUTHORS}
-use Rattle.mr_draw.specs.Lanes.{below, lane_at}
+use Rattle.mr_draw.proofs.Names.{AUTHORS, below, filter_map, lane_at, option_to_list}
 use Rattle.mr_draw.proofs.ListLemmas.{filter_map-grown, length-filter_map}
 use Rattle.mr_draw.proofs.PictureLemmas.{below-more}
 use Rattle.mr_draw.proofs.picture.lanes.Goals.{in-Some+in_ok-push, in_default}

@@ -1,6 +1,5 @@
 use Rattle.std.proofs.Common.{◌≡◌}
-use Rattle.std.specs.List.{filter_map}
-use Rattle.mr_draw.specs.Lanes.{below, lane_at}
+use Rattle.mr_draw.proofs.Names.{below, filter_map, lane_at}
 use Rattle.mr_draw.proofs.picture.lanes.Given as goal
 
 -- the replicas of the ids so far

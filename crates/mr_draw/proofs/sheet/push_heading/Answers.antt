@@ -1,6 +1,5 @@
 use Rattle.std.proofs.Common.{length, string_bytes}
-use Rattle.mr_draw.specs.Mark.{column_of, x_of}
-use Rattle.mr_draw.specs.Sheet.{name_y, named_text, title_text}
+use Rattle.mr_draw.proofs.Names.{column_of, name_y, named_text, title_text, x_of}
 use Rattle.mr_draw.proofs.ListLemmas.{joined2}
 use Rattle.mr_draw.proofs.sheet.push_heading.Goals as goal
 

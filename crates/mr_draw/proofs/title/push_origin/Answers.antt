@@ -1,6 +1,5 @@
 use Rattle.std.proofs.Common.{codes, string_bytes}
-use Rattle.std.proofs.lemmas.Result.{on_ok_weaker}
-use Rattle.mr_draw.specs.Words.{mail_title}
+use Rattle.mr_draw.proofs.Names.{mail_title, on_ok_weaker}
 use Rattle.mr_draw.proofs.ListLemmas.{joined2}
 use Rattle.mr_draw.proofs.title.push_origin.Goals as goal
 

@@ -1,6 +1,5 @@
 use Rattle.std.proofs.Common.{append-nil}
-use Rattle.std.specs.Fmt.{decimal}
-use Rattle.mr_version.specs.Name.{name_text}
+use Rattle.mr_draw.proofs.Names.{decimal, name_text}
 use Rattle.mr_draw.proofs.title.title_as.Goals as goal
 
 pub returns-in-TakeItem : goal.returns-in-TakeItem

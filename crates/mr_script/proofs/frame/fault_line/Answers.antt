@@ -1,6 +1,5 @@
-use Rattle.std.specs.Fmt.{decimal}
+use Rattle.mr_script.proofs.Names.{decimal, fault_name}
 use Rattle.mr_wire.specs.Fault.{fault_number}
-use Rattle.mr_script.specs.Frame.{fault_name}
 use Rattle.mr_script.proofs.Lines.{IfOk-same_text}
 use Rattle.mr_script.proofs.FrameLemmas.{refused_written}
 use Rattle.mr_script.proofs.frame.fault_line.Goals as goal

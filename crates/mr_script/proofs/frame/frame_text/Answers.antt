@@ -1,8 +1,7 @@
 use Rattle.std.proofs.Common.{ℕ, Option, ap}
 use Rattle.std.specs.Prelude.{option_map}
-use Rattle.std.specs.declared.alloc.Global.{Global}
+use Rattle.mr_script.proofs.Names.{Global, bytes_of}
 use Rattle.std.specs.declared.vec.Vec.{Vec}
-use Rattle.mr_script.specs.Frame.{bytes_of}
 use Rattle.mr_script.proofs.Telling.{found_tells, none_tells}
 use Rattle.mr_script.proofs.frame.frame_text.Goals as goal
 

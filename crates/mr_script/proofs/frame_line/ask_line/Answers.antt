@@ -1,6 +1,5 @@
 use Rattle.std.proofs.Common.{string_bytes}
-use Rattle.std.specs.Fmt.{decimal}
-use Rattle.mr_script.specs.Frame.{pieces_text}
+use Rattle.mr_script.proofs.Names.{decimal, pieces_text}
 use Rattle.mr_script.proofs.FrameLemmas.{IfOk-ask_line, ask_written}
 use Rattle.mr_script.proofs.frame_line.ask_line.Goals as goal
 

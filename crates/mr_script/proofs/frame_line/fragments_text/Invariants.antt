@@ -1,7 +1,5 @@
 use Rattle.std.proofs.Common.{◌≡◌, string_bytes, ◌++◌, take}
-use Rattle.std.specs.Prelude.{codes}
-use Rattle.std.specs.List.{flat_map}
-use Rattle.mr_script.specs.Frame.{piece_text}
+use Rattle.mr_script.proofs.Names.{codes, flat_map, piece_text}
 use Rattle.mr_script.proofs.frame_line.fragments_text.Given as goal
 
 abbrev pub invariant-loop-fragment : goal.invariant-loop-fragment

@@ -1,5 +1,4 @@
-use Rattle.std.specs.Fmt.{decimal}
-use Rattle.mr_version.specs.Name.{name_text}
+use Rattle.mr_script.proofs.Names.{decimal, name_text}
 use Rattle.mr_script.proofs.Lines.{IfOk-same_text}
 use Rattle.mr_script.proofs.FrameLemmas.{receipt_written}
 use Rattle.mr_script.proofs.frame_line.receipt_line.Goals as goal

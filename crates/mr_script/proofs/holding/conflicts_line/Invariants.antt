@@ -1,6 +1,5 @@
 use Rattle.std.proofs.Common.{◌≡◌, codes, string_bytes, ◌++◌, take}
-use Rattle.std.specs.Fmt.{decimal}
-use Rattle.mr_script.specs.Holding.{spaced_names}
+use Rattle.mr_script.proofs.Names.{decimal, spaced_names}
 use Rattle.mr_script.proofs.holding.conflicts_line.Given as goal
 
 abbrev pub invariant-loop-item : goal.invariant-loop-item

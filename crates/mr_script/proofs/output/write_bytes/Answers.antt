@@ -1,7 +1,5 @@
 use Rattle.std.proofs.Common.{◌-◌, ◌++◌, length, take, drop, sym, ap, subst, ◌∙◌, arith, length-take}
-use Rattle.std.proofs.Math.Seq.{take-add}
-use Rattle.std.proofs.lemmas.List.{take-take}
-use Rattle.std.specs.Io.KnownBytes.{Appends}
+use Rattle.mr_script.proofs.Names.{Appends, take-add, take-take}
 use Rattle.mr_script.proofs.Written.{Appends-both}
 use Rattle.mr_script.proofs.output.write_bytes.Goals as goal
 

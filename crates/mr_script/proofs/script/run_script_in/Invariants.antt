@@ -1,8 +1,7 @@
-use Rattle.std.proofs.Common.{ℕ, ◌+◌, ◌≤◌, IfSome}
-use Rattle.mr_script.specs.Script.{source_remaining}
-use Rattle.mr_script.proofs.LeaveLemmas.{CameTo}
+use Rattle.std.proofs.Common.{ℕ, ◌+◌, ◌≤◌, List, IfSome}
+use Rattle.mr_script.proofs.Names.{MAX_SCRIPT_BYTES, source_remaining}
+use Rattle.mr_script.proofs.SoFar.{CameTo}
 use Rattle.mr_script.proofs.script.run_script_in.Given as goal
-use Rattle.mr_script.specs.declared.source.TheConstants.{MAX_SCRIPT_BYTES}
 
 -- each line before this one took a byte
 pub record IsWithin (taken number : ℕ) : Type 0 where
@@ -13,4 +12,4 @@ abbrev pub invariant-loop-number : goal.invariant-loop-number
 invariant-loop-number g l =
     IsWithin l.source.taken l.number
     × IfSome (g.R.Read.remaining l.fn.reader) (λ script.
-    CameTo g.K.Knowledge.form l.fn.interpreter script l.interpreter l.number l.source.taken (source_remaining g.R.Read.remaining l.source))
+    (text : List ℕ) × CameTo g.K.Knowledge.form l.fn.interpreter script l.interpreter l.number l.source.taken (source_remaining g.R.Read.remaining l.source) text)

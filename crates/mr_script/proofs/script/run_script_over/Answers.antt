@@ -1,11 +1,6 @@
 use Rattle.std.proofs.Common.{◌≡◌, ◌⊎◌, inl, inr, Result, Err, sym, ◌∙◌}
-use Rattle.std.specs.Prelude.{IfErr}
-use Rattle.std.proofs.lemmas.Option.{IfSome_then}
-use Rattle.mr_script.specs.Fault.{NumbersItsLine}
-use Rattle.mr_script.specs.declared.fault.ScriptFault.{ScriptFault}
-use Rattle.mr_script.specs.declared.fault.ScriptFault.TheVariants.{TooLong, Write}
-use Rattle.mr_script.proofs.LeaveLemmas.{written_behind}
-use Rattle.mr_script.proofs.SoFar.{begins, prints_settled}
+use Rattle.mr_script.proofs.Names.{IfErr, IfSome_then, NumbersItsLine, ScriptFault, TooLong, Write}
+use Rattle.mr_script.proofs.SoFar.{begins, prints_settled, written_behind}
 use Rattle.mr_script.proofs.script.run_script_over.Goals as goal
 
 -- a script that ends as too long was run so
@@ -24,10 +19,10 @@ returns-clause-prints g c = record {
   line = numbers_its_line _ _ c.finish.ensures.or_ran c.run_lines-ran.ensures.line;
   prints = λ whole.
       let same = c.finish.ensures.ran whole in
-      let ran = c.run_lines-ran.ensures.prints (rw same at whole) in
-      rw (same, ← c.finish.ensures.empty whole) (IfSome_then _ ran (λ script prints. prints_settled g.K.Knowledge.form _ _ _ _ _ _ _ prints c.finish.ensures.settles));
-  begins = IfSome_then _ c.run_lines-ran.ensures.so_far (λ script so_far. begins g.K.Knowledge.form _ _ _ _ _ _ so_far c.finish.ensures.settles);
+      let wrote = rw same at whole in
+      rw (same, ← c.finish.ensures.empty whole) (IfSome_then _ c.run_lines-ran.ensures.ran (λ script ran. prints_settled g.K.Knowledge.form _ _ _ _ _ _ _ (ran.prints wrote) c.finish.ensures.settles));
+  begins = IfSome_then _ c.run_lines-ran.ensures.ran (λ script ran. begins g.K.Knowledge.form _ _ _ _ _ _ ran.so_far c.finish.ensures.settles);
 }
 
 pub returns-clause-leaves : goal.returns-clause-leaves
-returns-clause-leaves g c = IfSome_then _ c.run_lines-ran.ensures.leaves (λ script behind. written_behind g.K.Knowledge.form _ script _ _ _ c.finish.ensures.or_ran behind)
+returns-clause-leaves g c = IfSome_then _ c.run_lines-ran.ensures.ran (λ script ran. written_behind g.K.Knowledge.form _ script _ _ _ c.finish.ensures.or_ran ran.leaves)

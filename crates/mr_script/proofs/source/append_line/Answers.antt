@@ -1,8 +1,6 @@
 use Rattle.std.proofs.Common.{◌≡◌, ◌+◌, ◌++◌, take, sym, subst, Some}
-use Rattle.std.proofs.Transfers.{drop-appended}
+use Rattle.mr_script.proofs.Names.{Consumes, IsFirstByte, drop-appended, is_byte}
 use Rattle.std.specs.Io.Buffered.{reader_remaining, reader_buffer}
-use Rattle.std.specs.Io.KnownBytes.{Consumes}
-use Rattle.memchr.specs.Find.{IsFirstByte, is_byte}
 use Rattle.mr_script.proofs.Shown.{line_shown, shown_first, appended_line}
 use Rattle.mr_script.proofs.source.append_line.Goals as goal
 

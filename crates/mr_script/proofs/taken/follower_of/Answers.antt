@@ -1,9 +1,5 @@
 use Rattle.std.proofs.Common.{◌≡◌, ◌+◌, ◌∙◌, ap, sym, subst, List, [], ◌∷◌, ◌++◌, take, arith}
-use Rattle.std.proofs.lemmas.List.{take_more}
-use Rattle.std.specs.Option.{option_to_list}
-use Rattle.mr_subs.specs.Subscriber.{ShowsFold, ShowsFold-append}
-use Rattle.mr_world.specs.declared.answered.Answered.{Answered}
-use Rattle.mr_script.specs.Taken.{taken_at, taken_of}
+use Rattle.mr_script.proofs.Names.{Answered, ShowsFold, ShowsFold-append, option_to_list, take_more, taken_at, taken_of}
 use Rattle.mr_script.proofs.TakenLemmas.{taken_of-more}
 use Rattle.mr_script.proofs.taken.follower_of.Goals as goal
 

@@ -1,6 +1,5 @@
 use Rattle.std.proofs.Common.{◌≡◌, take, None}
-use Rattle.mr_subs.specs.Subscriber.{ShowsFold}
-use Rattle.mr_script.specs.Taken.{taken_of}
+use Rattle.mr_script.proofs.Names.{ShowsFold, taken_of}
 use Rattle.mr_script.proofs.taken.follower_of.Given as goal
 
 -- what was taken so far is applied, and nothing waits to be

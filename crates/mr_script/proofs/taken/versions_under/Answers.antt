@@ -1,8 +1,6 @@
 use Rattle.std.proofs.Common.{◌≡◌, ◌∙◌, ap, sym, subst, true, false}
-use Rattle.std.proofs.lemmas.Bool.{false_from_ne_true}
-use Rattle.mr_mail.specs.Label.{is_label}
-use Rattle.mr_model.specs.declared.event.Subscriber.TheVariants.{Indexer}
-use Rattle.mr_script.specs.Taken.{cards_of, indexed, Lists}
+use Rattle.mr_script.proofs.Names.{Indexer, Lists, cards_of, false_from_ne_true, is_label}
+use Rattle.mr_script.specs.Taken.{indexed}
 use Rattle.mr_script.proofs.TakenLemmas.{Lists-no_label}
 use Rattle.mr_script.proofs.taken.versions_under.Goals as goal
 

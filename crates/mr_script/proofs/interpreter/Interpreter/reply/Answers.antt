@@ -1,6 +1,5 @@
 use Rattle.std.proofs.Common.{refl}
-use Rattle.std.proofs.lemmas.Result.{err_from_is_err_and}
-use Rattle.mr_script.specs.Stage.InWorld.{done, not_begun}
+use Rattle.mr_script.proofs.Names.{done, err_from_is_err_and, not_begun}
 use Rattle.mr_script.proofs.interpreter.Interpreter.reply.Goals as goal
 
 pub returns-in_err-world : goal.returns-in_err-world
