@@ -5,6 +5,7 @@ use Rattle.std.specs.Cmp.{tied_itself}
 use Rattle.std.specs.Cmp.Lexicographic.{nat_list_cmp_total}
 use Rattle.std.specs.List.{AllByRecursion}
 use Rattle.std.specs.Ordering.{is_eq}
+use Rattle.std.proofs.lemmas.Bool.{and_left, false_from_ne_true, false≢true, not-true, or_parts}
 use Rattle.std.proofs.lemmas.List.Concat.{flat_map-cons}
 use Rattle.std.proofs.lemmas.List.Elements.{All-append, All-cons, All-from_recursion, All-map, All-nil, All-same, recursion_from_All}
 use Rattle.mr_mail.specs.Flag.{has_flag}
@@ -33,24 +34,16 @@ merge_keeps is_due None act h = h
 merge_keeps true (Some held) act h = refl
 merge_keeps false (Some held) act h = h
 
-merged_deletes : (mail : Standing) (act : Act) → deletes (merged_act mail act) ≡ deletes act
-merged_deletes mail Agree = merge_keeps mail.is_merge_due mail.held Agree refl
-merged_deletes mail Create = refl
-merged_deletes mail (Edit view) = refl
-merged_deletes mail Delete = refl
-merged_deletes mail Follow = merge_keeps mail.is_merge_due mail.held Follow refl
-merged_deletes mail Remove = refl
-
-is_delete : (act : Act) → deletes act ≡ true → act ≡ Delete
-is_delete Agree h = let wrong : false ≡ true = h in cc
-is_delete Create h = let wrong : false ≡ true = h in cc
-is_delete (Edit view) h = let wrong : false ≡ true = h in cc
-is_delete Delete h = refl
-is_delete Follow h = let wrong : false ≡ true = h in cc
-is_delete Remove h = let wrong : false ≡ true = h in cc
+told_deletes : (mail : Standing) (act : Act) → deletes (merged_act mail act) ≡ true → act ≡ Delete
+told_deletes mail Agree h = absurd (false≢true (sym (merge_keeps mail.is_merge_due mail.held Agree refl) ∙ h))
+told_deletes mail Create h = absurd (false≢true h)
+told_deletes mail (Edit view) h = absurd (false≢true h)
+told_deletes mail Delete h = refl
+told_deletes mail Follow h = absurd (false≢true (sym (merge_keeps mail.is_merge_due mail.held Follow refl) ∙ h))
+told_deletes mail Remove h = absurd (false≢true h)
 
 deletion : (mail : Standing) → deletes (told_for mail) ≡ true → IsDeletion mail
-deletion mail h = (where_deleted {E = ℕ} (Ok (act_for mail)) mail refl).0 (is_delete (act_for mail) (sym (merged_deletes mail (act_for mail)) ∙ h))
+deletion mail h = (where_deleted {E = ℕ} (Ok (act_for mail)) mail refl).0 (told_deletes mail (act_for mail) h)
 
 -- ---- the mail of each is one of the store's, if so is each that was removed
 
@@ -75,11 +68,9 @@ due_stored stored (mail ∷ mails) h =
 -- ---- each that was removed is one of the store's
 
 not_gone : (view : ViewParts) → IsSome (standing (Some view)) → is_gone view ≡ false
-not_gone view file = go (is_nowhere view) refl
-  where
-    go : (b : Bool) → is_nowhere view ≡ b → is_gone view ≡ false
-    go true e = let wrong : false ≡ true = subst (λ (c : Bool). IsSome (cond c None (Some view))) e file in cc
-    go false e = ap (λ (b : Bool). b && has_flag view.flags Deleted) e
+not_gone view file =
+    let here : is_nowhere view ≡ false = false_from_ne_true (is_nowhere view) (λ e. false≢true (subst (λ (c : Bool). IsSome (cond c None (Some view))) e file)) in
+    and_left (is_nowhere view) (has_flag view.flags Deleted) here
 
 stored_if : (a b c : Bool) → b ≡ false → c ≡ true → (not (a || b) && c) ≡ false → a ≡ true
 stored_if true b c n t h = refl
@@ -87,28 +78,16 @@ stored_if false true c n t h = let wrong : true ≡ false = n in cc
 stored_if false false true n t h = let wrong : true ≡ false = h in cc
 stored_if false false false n t h = let wrong : false ≡ true = t in cc
 
-not_true : (a : Bool) → not a ≡ true → a ≡ false
-not_true true h = let wrong : false ≡ true = h in cc
-not_true false h = refl
-
-or_left : (a b : Bool) → (a || b) ≡ false → a ≡ false
-or_left true b h = let wrong : true ≡ false = h in cc
-or_left false b h = refl
-
-or_right : (a b : Bool) → (a || b) ≡ false → b ≡ false
-or_right true b h = let wrong : true ≡ false = h in cc
-or_right false b h = h
-
 -- of these mails, none of which lacks its file without being among all that do
 held_stored : (stored : List Stored) (sides : Sides) (mails : List HeldMail) → ((digest : List ℕ) → lacks_file sides digest ≡ false → is_missing stored mails digest ≡ false)
     → AllByRecursion (λ (mail : HeldMail). IsStored stored (standing_of_held sides mail)) mails
 held_stored stored sides [] none = tt
 held_stored stored sides (mail ∷ mails) none = (
   λ is.
-      let found = none mail.digest (not_true (lacks_file sides mail.digest) is.file) in
+      let found = none mail.digest (not-true (lacks_file sides mail.digest) is.file) in
       stored_if (is_stored stored mail.digest) (is_gone mail.view) (is_eq (text_cmp mail.digest mail.digest)) (not_gone mail.view is.had_file)
-      (ap is_eq (tied_itself nat_list_cmp_total mail.digest)) (or_left _ (is_missing stored mails mail.digest) found),
-  held_stored stored sides mails (λ digest here. or_right _ (is_missing stored mails digest) (none digest here)),
+      (ap is_eq (tied_itself nat_list_cmp_total mail.digest)) (or_parts _ (is_missing stored mails mail.digest) found).0,
+  held_stored stored sides mails (λ digest here. (or_parts _ (is_missing stored mails digest) (none digest here)).1),
 )
 
 unheld_stored : (stored : List Stored) (sides : Sides) (digests : List (List ℕ)) → AllByRecursion (λ (digest : List ℕ). IsStored stored (standing_of_unheld sides digest)) digests

@@ -21,17 +21,10 @@ use Rattle.mr_compare.specs.declared.joining.ItemHeads.{ItemHeads}
 use Rattle.mr_fold.specs.Settling.{AddsAtOnce, AddsInTurn, HasBegun, HasShown, HasTold, Leaves, Settles}
 use Rattle.mr_fold.specs.Shown.{shown_note}
 use Rattle.mr_fold.specs.Telling.{Grows, TellsAll}
-use Rattle.mr_fold.specs.inner.Settling.{AddsToldFirst, AddsWaiting}
+use Rattle.mr_fold.specs.inner.Settling.{AddsWaiting}
 use Rattle.mr_fold.proofs.SettlingLemmas.{kept_noted, kept_told, leaves_behind, none_waits, notes_after, notes_told, shown_at_once, told_events}
 
 module _ {D V : Type 0} {moment : D → ℕ} {left_since : D → ℕ → List ℕ → Type 0} (held : List (List ℕ × Vec ItemHeads)) (lacking : List Name) (moved others : List MailAct) (old now : Journaled Normal D V) (entries : List Entry) where
-  -- where the others are settled later
-  pub begins : LeavesOnly moment left_since (device_of (journal_of old)) (device_of (journal_of now)) (AddsToldFirst held lacking moved old now entries)
-      → LeavesOnly moment left_since (device_of (journal_of old)) (device_of (journal_of now)) (AddsInTurn held lacking moved others old now entries)
-  begins leaves =
-      widened (AddsInTurn held lacking moved others old now entries) leaves
-      (λ c left. ⊎_elim (λ before. inl before) (λ behind. inr (⊎_elim (λ told. inl told) (λ shown. inr (inr shown)) behind)) left)
-
   -- where some of the others are settled later
   pub begins_more : (first after : List MailAct) → others ≡ first ++ after → LeavesOnly moment left_since (device_of (journal_of old)) (device_of (journal_of now)) (AddsInTurn held lacking moved first old now entries)
       → LeavesOnly moment left_since (device_of (journal_of old)) (device_of (journal_of now)) (AddsInTurn held lacking moved others old now entries)
@@ -68,15 +61,15 @@ module _ {D V : Type 0} {seen : D → List ℕ} {may_leave : D → List ℕ → 
     notes = notes_told old told same;
   }
 
-module _ {D V : Type 0} {seen : D → List ℕ} {may_leave : D → List ℕ → Type 0} {moment : D → ℕ} {left_since : D → ℕ → List ℕ → Type 0} (held : List (List ℕ × Vec ItemHeads)) (lacking : List Name) (entries : List Entry) (mails : List MailAct) (old told : Journaled Normal D V) where
+module _ {D V : Type 0} {seen : D → List ℕ} {may_leave : D → List ℕ → Type 0} {moment : D → ℕ} {left_since : D → ℕ → List ℕ → Type 0} (held : List (List ℕ × Vec ItemHeads)) (lacking : List Name) (entries : List Entry) (mails others : List MailAct) (old told : Journaled Normal D V) where
   -- a commit of what was told
   pub tells_first : (new now : Journaled Normal D V) → SameJournal old told → Grows (TellsAll held mails) (replica_of old) (replica_of told) → IsKept seen may_leave entries old
       → (IsKept seen may_leave entries told → LeavesOnly moment left_since (device_of (journal_of told)) (device_of (journal_of new)) (AddsWaiting told new entries))
-      → LeavesOnly moment left_since (device_of (journal_of old)) (device_of (journal_of new)) (AddsToldFirst held lacking mails old now entries)
+      → LeavesOnly moment left_since (device_of (journal_of old)) (device_of (journal_of new)) (AddsInTurn held lacking mails others old now entries)
   tells_first new now same grows kept commit =
       let waits : IsKept seen may_leave entries told = kept_told entries old told same grows kept in
       let leaves = subst (λ (j : Journal D). LeavesOnly moment left_since (device_of j) (device_of (journal_of new)) (AddsWaiting told new entries)) same.journal (commit waits) in
-      widened (AddsToldFirst held lacking mails old now entries) leaves (λ c left. ⊎_elim (λ before. inl before) (λ all. inr (inl (has_told held entries mails old told same grows waits c all))) left)
+      widened (AddsInTurn held lacking mails others old now entries) leaves (λ c left. ⊎_elim (λ before. inl before) (λ all. inr (inl (has_told held entries mails old told same grows waits c all))) left)
 
   -- and behind it one of the note
   pub shows_then : (mid noted new : Journaled Normal D V) → SameJournal old told → Grows (TellsAll held mails) (replica_of old) (replica_of told) → IsKept seen may_leave entries old
@@ -84,7 +77,7 @@ module _ {D V : Type 0} {seen : D → List ℕ} {may_leave : D → List ℕ → 
       → (IsKept seen may_leave entries told → IsKept seen may_leave (entries ++ entries_waiting told) mid)
       → nothing_waits mid ≡ true → Noted (shown_note (length (replica_of mid).feed) lacking) mid noted → replica_of new ≡ replica_of noted
       → (IsKept seen may_leave (entries ++ entries_waiting told) noted → LeavesOnly moment left_since (device_of (journal_of noted)) (device_of (journal_of new)) (AddsWaiting noted new (entries ++ entries_waiting told)))
-      → LeavesOnly moment left_since (device_of (journal_of old)) (device_of (journal_of new)) (AddsToldFirst held lacking mails old new entries)
+      → LeavesOnly moment left_since (device_of (journal_of old)) (device_of (journal_of new)) (AddsInTurn held lacking mails others old new entries)
   shows_then mid noted new same grows kept tells keeps none put replica shows =
       let front : List Entry = entries_waiting told in
       let last : List Entry = entries_waiting noted in
@@ -92,15 +85,15 @@ module _ {D V : Type 0} {seen : D → List ℕ} {may_leave : D → List ℕ → 
       let here : IsKept seen may_leave (entries ++ front) noted = kept_noted (entries ++ front) mid noted _ (keeps waits) put in
       let leaves = subst (λ (j : Journal D). LeavesOnly moment left_since (device_of j) (device_of (journal_of new)) (AddsWaiting noted new (entries ++ front))) put.journal (shows here) in
       joined (tells_first mid new same grows kept tells)
-      (widened (AddsToldFirst held lacking mails old new entries) leaves (λ c left. inr (⊎_elim
+      (widened (AddsInTurn held lacking mails others old new entries) leaves (λ c left. inr (⊎_elim
       (λ before. inl (has_told held entries mails old told same grows waits c before))
-      (λ all. inr (record {
+      (λ all. inr (inr (record {
         more = front ++ last;
         stands = subst (λ (l : List Entry). Stands (map entry_bytes l) c) (append_assoc entries front last) all;
         events = ap events_of (sym (append_assoc entries front last)) ∙ told_events (entries ++ front) noted here ∙ sym (ap (λ (s : State Normal). s.log) replica);
         parts = [];
         notes = notes_after old told mid noted new lacking same (none_waits mid none) put replica;
-      })) left)))
+      }))) left)))
 
 module _ {D V F : Type 0} {device : DeviceOf D} {are_synced : F → Type 0} {held : List (List ℕ × Vec ItemHeads)} {lacking : List Name} where
   -- one call more, behind some that are told and shown

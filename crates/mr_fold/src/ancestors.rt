@@ -3,7 +3,7 @@ use mr_compare::{Head, MailItem, is_merge_due};
 use mr_itemset::SparingKnowledge;
 use mr_mail::Message;
 use mr_maildir::View;
-use mr_replica::{Bases, Event, Replica, Revision};
+use mr_replica::{Event, Replica, Revision};
 use mr_version::{Author, ItemId, Version};
 use mr_wire::{Body, Frame};
 use std::alloc::{AllocError, Global};
@@ -69,37 +69,12 @@ fn ancestor_views(
     for (mail, heads) in heads.iter() {
         let item = mail.1;
         if due.contains(&item) {
-            if let Some(view) = ancestor_view(alloc, replica, told, item, heads)? {
-                views.insert(item, view)?;
+            if let Some(message) = newest_ancestor(replica, told, item, heads) {
+                views.insert(item, View::of_place(alloc, message.place())?)?;
             }
         }
     }
     Ok(views)
-}
-
-/// How the item's mail stood by the newest ancestor of its heads.
-fn ancestor_view(
-    alloc: Global,
-    replica: &Replica<SparingKnowledge>,
-    told: &[ToldVersion],
-    item: ItemId,
-    heads: &[Head],
-) -> Result<Option<View>, AllocError> {
-    let Some(place) = newest_ancestor(replica, told, item, heads) else {
-        return Ok(None);
-    };
-    match replica.log().get(place) {
-        Some(event) => view_told(alloc, event),
-        None => Ok(None),
-    }
-}
-
-/// How the mail stands by the version that the event tells, if it tells one.
-fn view_told(alloc: Global, event: &Event) -> Result<Option<View>, AllocError> {
-    match message_told(event) {
-        Some(message) => Ok(Some(View::of_place(alloc, message.place())?)),
-        None => Ok(None),
-    }
 }
 
 /// The message of the version that the event tells, if it tells one.
@@ -115,30 +90,27 @@ pub(crate) fn message_told(event: &Event) -> Option<&Message> {
     }
 }
 
-/// The place of the version that was told last of those of the item that each head supersedes.
-fn newest_ancestor(
-    replica: &Replica<SparingKnowledge>,
+/// The message of the version that was told last of those of the item that each head supersedes.
+fn newest_ancestor<'a>(
+    replica: &'a Replica<SparingKnowledge>,
     told: &[ToldVersion],
     item: ItemId,
     heads: &[Head],
-) -> Option<usize> {
+) -> Option<&'a Message> {
     let mut newest = None;
     for one in told {
         if one.item == item && is_below_all(replica, heads, one.version) {
             newest = Some(one.place);
         }
     }
-    newest
+    message_told(replica.log().get(newest?)?)
 }
 
 /// Whether each head supersedes the version.
 fn is_below_all(replica: &Replica<SparingKnowledge>, heads: &[Head], version: Version) -> bool {
-    for head in heads {
-        if !is_below(replica.held(head.version), version) {
-            return false;
-        }
-    }
-    true
+    heads
+        .iter()
+        .all(|head| is_below(replica.held(head.version), version))
 }
 
 /// Whether the revision, if there is one, supersedes the version.
@@ -169,18 +141,43 @@ fn told_of(
 }
 
 impl ToldVersions {
-    /// Takes what the event at this place tells of these items.
+    /// Takes what the event at this place tells, if it is of one of these items.
     fn take(
         &mut self,
         place: usize,
         event: &Event,
         due: &BTreeSet<ItemId>,
     ) -> Result<(), AllocError> {
+        if let Some((item, version)) = self.version_told(event) {
+            if due.contains(&item) {
+                self.items.insert(version, item)?;
+                self.told.push(ToldVersion {
+                    item,
+                    version,
+                    place,
+                })?;
+            }
+        }
+        Ok(())
+    }
+
+    /// The version that the event tells, and its item: of an edit only if the first version that it supersedes was taken.
+    fn version_told(&mut self, event: &Event) -> Option<(ItemId, Version)> {
         match event {
-            Event::Create(_) => self.take_created(place, due),
-            Event::Edit(bases, _) => self.take_edited(place, bases),
-            Event::Receive(Frame::Record(record)) => self.take_received(place, record.body(), due),
-            _ => Ok(()),
+            Event::Create(_) => {
+                let version = self.issue()?;
+                Some((ItemId::new(version), version))
+            }
+            Event::Edit(bases, _) => {
+                let version = self.issue()?;
+                let item = self.items.get(bases.as_slice().first()?)?;
+                Some((*item, version))
+            }
+            Event::Receive(Frame::Record(record)) => match record.body() {
+                Body::Item(revision) => Some((revision.item(), revision.version())),
+                _ => None,
+            },
+            _ => None,
         }
     }
 
@@ -188,64 +185,5 @@ impl ToldVersions {
     fn issue(&mut self) -> Option<Version> {
         self.issued = self.issued.saturating_add(1);
         Version::try_new(self.author, self.issued).ok()
-    }
-
-    fn take_created(&mut self, place: usize, due: &BTreeSet<ItemId>) -> Result<(), AllocError> {
-        match self.issue() {
-            Some(version) => self.note_due(place, ItemId::new(version), version, due),
-            None => Ok(()),
-        }
-    }
-
-    fn take_edited(&mut self, place: usize, bases: &Bases) -> Result<(), AllocError> {
-        match (self.issue(), self.item_of(bases)) {
-            (Some(version), Some(item)) => self.note(place, item, version),
-            _ => Ok(()),
-        }
-    }
-
-    fn take_received(
-        &mut self,
-        place: usize,
-        body: &Body,
-        due: &BTreeSet<ItemId>,
-    ) -> Result<(), AllocError> {
-        match body {
-            Body::Item(revision) => self.note_due(place, revision.item(), revision.version(), due),
-            _ => Ok(()),
-        }
-    }
-
-    /// The item of the first of these versions, if it is one of those that are looked for.
-    fn item_of(&self, bases: &Bases) -> Option<ItemId> {
-        let first = bases.as_slice().first()?;
-        match self.items.get(first) {
-            Some(item) => Some(*item),
-            None => None,
-        }
-    }
-
-    /// Notes the version, if its item is one of these.
-    fn note_due(
-        &mut self,
-        place: usize,
-        item: ItemId,
-        version: Version,
-        due: &BTreeSet<ItemId>,
-    ) -> Result<(), AllocError> {
-        if due.contains(&item) {
-            self.note(place, item, version)?;
-        }
-        Ok(())
-    }
-
-    fn note(&mut self, place: usize, item: ItemId, version: Version) -> Result<(), AllocError> {
-        self.items.insert(version, item)?;
-        self.told.push(ToldVersion {
-            item,
-            version,
-            place,
-        })?;
-        Ok(())
     }
 }

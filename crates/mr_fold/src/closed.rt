@@ -29,17 +29,8 @@ pub struct AtRest {
 struct Closed<R> {
     tree: DiskTree<R>,
     listed: Listed,
-    /// Other bytes, as soon as its log, its store, or the names in one of its folders change.
-    stand: Vec<u8>,
-}
-
-/// A folder that rests.
-#[derive(Drop)]
-struct Rest {
-    /// How it stands for those that don't read its log.
-    stand: Vec<u8>,
-    /// What was seen in it.
-    seen: Vec<u8>,
+    /// What a note has of it as it stands.
+    noted: Vec<u8>,
 }
 
 /// What [`note_at_rest`] noted of the folder at this path, which is locked by its log's file. `None` where nothing was, where its log, its
@@ -51,20 +42,10 @@ pub fn noted_at_rest<R: Files<File = File> + AllocGlobal + Clone + Drop>(
     root: &str,
     log: &DiskFile,
 ) -> Option<AtRest> {
-    let closed = closed_at(rt, root, log)?;
-    let bytes = bytes_noted(rt, root, &closed.stand)?;
+    let closed = closed_at(rt, root, log, NOTE)?;
+    let bytes = Vec::from_slice(rt.alloc(), unsealed(&closed.noted)?).ok()?;
     let passed_over = passed_over(closed.listed, 0);
     Some(AtRest { passed_over, bytes })
-}
-
-/// The bytes that are noted of a folder that stands so.
-fn bytes_noted<R: Files<File = File> + AllocGlobal>(
-    rt: &R,
-    root: &str,
-    stand: &[u8],
-) -> Option<Vec<u8>> {
-    let sealed = noted(rt, root, NOTE, stand)?;
-    Vec::from_slice(rt.alloc(), unsealed(&sealed)?).ok()
 }
 
 /// What [`settle_if_edited`](crate::settle_if_edited) does in the folder at this path, which is locked by its log's file: nothing, as [`note_seen`] noted.
@@ -78,22 +59,21 @@ pub fn seen_at_rest<R: Files<File = File> + AllocGlobal + Clone + Drop>(
     root: &str,
     log: &DiskFile,
 ) -> Option<Settled> {
-    let closed = closed_at(rt, root, log)?;
+    let closed = closed_at(rt, root, log, CLOSED_NOTE)?;
     match is_as_seen(rt, root, &closed) {
         Some(true) => Some(at_rest(closed.listed)),
         _ => None,
     }
 }
 
-/// Whether what was noted to be seen in the folder is what is in it. `None` where nothing was noted.
+/// Whether what was noted to be seen in the folder is what is in it. `None` where that can't be told.
 fn is_as_seen<R: Files<File = File> + AllocGlobal + Clone + Drop>(
     rt: &R,
     root: &str,
     closed: &Closed<R>,
 ) -> Option<bool> {
-    let seen = noted(rt, root, CLOSED_NOTE, &closed.stand)?;
     let names = names_digest(rt.alloc(), &closed.tree, closed.listed.table.folders())?;
-    has_seen(rt, root, &seen, &names)
+    has_seen(rt, root, &closed.noted, &names)
 }
 
 /// Notes these bytes of the folder as it stands, in place of what was noted. Where the folder doesn't rest, as
@@ -104,19 +84,12 @@ pub fn note_at_rest<R: Files<File = File> + AllocGlobal + Clone + Drop>(
     folder: &mut OpenFolder<R>,
     bytes: &[u8],
 ) {
-    // without the note the folder is opened
-    let _ = write_at_rest(rt, root, folder, bytes);
-}
-
-fn write_at_rest<R: Files<File = File> + AllocGlobal + Clone + Drop>(
-    rt: &R,
-    root: &str,
-    folder: &mut OpenFolder<R>,
-    bytes: &[u8],
-) -> Option<()> {
-    let Rest { stand, .. } = rest_of(rt, root, folder)?;
-    let sealed = sealed_bytes(rt.alloc(), bytes).ok()?;
-    write_note(rt, root, NOTE, &stand, &sealed)
+    if let Some((stand, _)) = rest_of(rt, root, folder) {
+        if let Ok(sealed) = sealed_bytes(rt.alloc(), bytes) {
+            // without the note the folder is opened
+            let _ = write_note(rt, root, NOTE, &stand, &sealed);
+        }
+    }
 }
 
 /// Notes what was seen of the folder as it stands, so that the next call of [`seen_at_rest`] finds it, until a settling looks at the files again. Where
@@ -126,66 +99,61 @@ pub fn note_seen<R: Files<File = File> + AllocGlobal + Clone + Drop>(
     root: &str,
     folder: &mut OpenFolder<R>,
 ) {
-    // without the note the folder is opened
-    let _ = write_seen(rt, root, folder);
-}
-
-fn write_seen<R: Files<File = File> + AllocGlobal + Clone + Drop>(
-    rt: &R,
-    root: &str,
-    folder: &mut OpenFolder<R>,
-) -> Option<()> {
-    let Rest { stand, seen } = rest_of(rt, root, folder)?;
-    if seen.is_empty() {
-        return None;
+    if let Some((stand, seen)) = rest_of(rt, root, folder) {
+        if !seen.is_empty() {
+            // without the note the folder is opened
+            let _ = write_note(rt, root, CLOSED_NOTE, &stand, &seen);
+        }
     }
-    write_note(rt, root, CLOSED_NOTE, &stand, &seen)
 }
 
-/// The folder at this path, if what can be told of it is.
+/// The folder at this path, if the note has something of it as it stands.
 fn closed_at<R: Files<File = File> + AllocGlobal + Clone + Drop>(
     rt: &R,
     root: &str,
     log: &DiskFile,
+    note: &str,
 ) -> Option<Closed<R>> {
     let (mut tree, layout) = open_tree(rt, root).ok()?;
-    let (listed, stand) = listed_and_stand(rt, root, log, &mut tree, layout)?;
+    let listed = listed_at(rt.alloc(), &mut tree, layout).ok()?;
+    let noted = noted_of(rt, root, log, note, &tree, &listed)?;
     Some(Closed {
         tree,
         listed,
-        stand,
+        noted,
     })
 }
 
-/// The folders of these files, which lie so, and how they stand.
-fn listed_and_stand<R: Files<File = File> + AllocGlobal + Clone + Drop>(
+/// What the note has of the folder with these files, as it stands.
+fn noted_of<R: Files<File = File> + AllocGlobal + Clone + Drop>(
     rt: &R,
     root: &str,
     log: &DiskFile,
-    tree: &mut DiskTree<R>,
-    layout: Layout,
-) -> Option<(Listed, Vec<u8>)> {
-    let listed = listed_at(rt.alloc(), tree, layout).ok()?;
+    note: &str,
+    tree: &DiskTree<R>,
+    listed: &Listed,
+) -> Option<Vec<u8>> {
     let files = files_stand(rt, root, tree, &listed.table)?;
-    let stand = closed_stand(rt, log, layout, &files)?;
-    Some((listed, stand))
+    let stand = closed_stand(rt, log, listed.table.layout(), &files)?;
+    noted(rt, root, note, &stand)
 }
 
-/// The folder, if it rests.
+/// How a folder that rests stands for those that don't read its log, and what was seen in it.
 fn rest_of<R: Files<File = File> + AllocGlobal + Clone + Drop>(
     rt: &R,
     root: &str,
     folder: &mut OpenFolder<R>,
-) -> Option<Rest> {
+) -> Option<(Vec<u8>, Vec<u8>)> {
     if !folder.kept.is_kept() {
         return None;
     }
     let Listed { table, .. } = listed_at(folder.alloc, &mut folder.tree, folder.layout).ok()?;
     let layout = table.layout();
     let files = files_stand(rt, root, &folder.tree, &table)?;
-    let seen = seen_at(rt, root, &stand_with(folder.alloc, folder, layout, &files)?)?;
+    let stand = stand_with(folder.alloc, folder, layout, &files);
+    let seen = seen_at(rt, root, &stand)?;
     let stand = closed_stand(rt, folder.kept.journal().device(), layout, &files)?;
-    Some(Rest { stand, seen })
+    Some((stand, seen))
 }
 
 /// How the files of a folder stand whose log isn't read.

@@ -9,7 +9,7 @@ ghost use Rattle.mr_fold.specs.inner.Seeing.{Says};
 
 use crate::fold_fault::FoldFault;
 use crate::held_side::HeldSide;
-use crate::sides::second_sides;
+use crate::sides::sides_of;
 use mr_compare::{Digest, HeldMail, MailAct, Sides, acts_of, first_undecided, unheld_digests};
 use mr_scan::{Index, Scan};
 use std::alloc::{AllocError, Global};
@@ -46,7 +46,17 @@ pub(crate) fn decide(
     // No change of the Maildir that was seen is lost: it is told, or waits.
     ensures heeded { IfOk result (λ decided. All IsHeeded (standings_by decided.sides held.now.mails.items decided.others.items)) }
 {
-    let sides = second_sides(alloc, sides, &held.mails, first, second, index)?;
+    let Sides { left, seen, .. } = sides;
+    let are_quiet = first.is_quiet && second.is_quiet;
+    let sides = sides_of(
+        alloc,
+        left,
+        Some(seen),
+        are_quiet,
+        &held.mails,
+        second,
+        index,
+    )?;
     let others = unheld_digests(alloc, &held.items, &sides)?;
     let acts = decided_acts(alloc, &held.mails, &others, &sides)?;
     Ok(Decided {

@@ -4,6 +4,7 @@ ghost use Rattle.std.specs.Prelude.{◌≡◌, [], ⊤};
 use crate::fault::SettleFault;
 use crate::message::{day_at, folder_lines, new_mail};
 use crate::names::FileNames;
+use crate::parting::seen;
 use crate::settling::MailFiles;
 use crate::targets::Target;
 use mr_compare::{Digest, MailAct};
@@ -52,19 +53,10 @@ impl<'a, R: Files<File = File> + AllocGlobal + Clone + Drop> DiskMails<'a, R> {
             scan,
             created,
             targets,
-            names: names_for(alloc, scan, targets)?,
+            names: FileNames::of(alloc, scan, !targets.is_empty())?,
             folders: BTreeMap::new(alloc),
             touched: BTreeMap::new(alloc),
         })
-    }
-
-    /// The mail's files that were seen.
-    fn seen(&self, digest: &Digest) -> &'a [MailFile] {
-        let scan = self.scan;
-        match scan.mails.get(digest) {
-            Some(files) => files,
-            None => &[],
-        }
     }
 
     /// The message of a mail with a file of these bytes. The files of a new mail are let go.
@@ -79,7 +71,7 @@ impl<'a, R: Files<File = File> + AllocGlobal + Clone + Drop> DiskMails<'a, R> {
     {
         match self.created.remove(digest) {
             Some(files) => self.message_with(alloc, digest, &files, bytes, time),
-            None => self.message_with(alloc, digest, self.seen(digest), bytes, time),
+            None => self.message_with(alloc, digest, seen(self.scan, digest), bytes, time),
         }
     }
 
@@ -106,8 +98,8 @@ impl<'a, R: Files<File = File> + AllocGlobal + Clone + Drop> DiskMails<'a, R> {
         let Some(target) = targets.get(digest) else {
             return Ok(());
         };
-        let seen = self.seen(digest);
-        if seen.is_empty() && !self.has_stored(alloc, digest)? {
+        let seen = seen(self.scan, digest);
+        if seen.is_empty() && !self.tree.has(&FilePath::stored(alloc, digest)?)? {
             return Ok(());
         }
         let told = told_name(target.lines.as_str()).unwrap_or("");
@@ -119,15 +111,9 @@ impl<'a, R: Files<File = File> + AllocGlobal + Clone + Drop> DiskMails<'a, R> {
         Ok(())
     }
 
-    /// Whether the store has the mail's file.
-    fn has_stored(&mut self, alloc: Global, digest: &Digest) -> Result<bool, SettleFault> {
-        let path = FilePath::stored(alloc, digest)?;
-        Ok(self.tree.has(&path)?)
-    }
-
     /// Removes all of the mail's files.
     fn remove_all(&mut self, alloc: Global, digest: &Digest) -> Result<(), SettleFault> {
-        for file in self.seen(digest) {
+        for file in seen(self.scan, digest) {
             self.remove(alloc, file, "")?;
         }
         Ok(())
@@ -260,18 +246,6 @@ impl<'a, R: Files<File = File> + AllocGlobal + Clone + Drop> DiskMails<'a, R> {
     }
 }
 
-/// The names of the files that were seen, if some are to be made.
-fn names_for<'a>(
-    alloc: Global,
-    scan: &'a Scan,
-    targets: &BTreeMap<Digest, Target>,
-) -> Result<FileNames<'a>, AllocError> {
-    if targets.is_empty() {
-        return Ok(FileNames::none(alloc));
-    }
-    FileNames::of(alloc, scan)
-}
-
 /// The unique part of the first file's name.
 fn first_unique(files: &[MailFile]) -> &str {
     match files.first() {
@@ -305,12 +279,9 @@ impl<'a, R: Files<File = File> + AllocGlobal + Clone + Drop> MailFiles for DiskM
 
     fn show(&mut self, alloc: Global, mail: &MailAct) -> Result<(), SettleFault> {
         match &mail.act {
-            Act::Edit(_) => self.place(alloc, &mail.digest),
-            Act::Follow => self.place(alloc, &mail.digest),
+            Act::Edit(_) | Act::Follow => self.place(alloc, &mail.digest),
             Act::Remove => self.remove_all(alloc, &mail.digest),
-            Act::Agree => Ok(()),
-            Act::Create => Ok(()),
-            Act::Delete => Ok(()),
+            Act::Agree | Act::Create | Act::Delete => Ok(()),
         }
     }
 

@@ -1,5 +1,5 @@
-//! Files of deleted mail are let go.
-ghost use Rattle.std.specs.Prelude.{◌≡◌, ◌++◌, ◌∷◌, ◌||◌, [], ℕ, List, IfOk, OnOk, count_by, filter, if◌then◌else◌};
+//! Files are let go: those of no held mail, and those of deleted mail.
+ghost use Rattle.std.specs.Prelude.{◌≡◌, ◌++◌, ◌||◌, ℕ, List, IfOk, OnOk, count_by, filter};
 ghost use Rattle.std.specs.Cmp.Lexicographic.{slice_cmp};
 ghost use Rattle.std.specs.List.{list_any};
 ghost use Rattle.std.specs.List.Sorted.{IsPermutation, IsSorted};
@@ -37,12 +37,33 @@ pub fn deleted_mails<R: Files<File = File> + AllocGlobal + Clone + Drop>(
     Ok(among(alloc, &stored, &gone)?)
 }
 
+/// Takes the files out of the store that no held mail names. Files of the Maildir stay, and those that aren't told yet are taken
+/// in again by the next settling. It is called between syncs, since a sync brings files before it is told what they are.
+pub fn sweep_folder<R: Files<File = File> + AllocGlobal + Clone + Drop>(
+    folder: &mut OpenFolder<R>,
+) -> Result<(), FoldFault> {
+    let held = held_digests(folder.alloc, folder.kept.replica())?;
+    said(sweep(folder.alloc, &mut folder.tree, &held), &folder.tree)
+}
+
+/// The digests of what is held, sorted as a sweep wants them.
+fn held_digests(
+    alloc: Global,
+    replica: &Replica<SparingKnowledge>,
+) -> Result<Vec<Digest>, AllocError>
+    ensures { IfOk result (λ digests. IsSorted (slice_cmp nat_cmp) digests.items) }
+{
+    let heads = heads_of(alloc, replica)?;
+    let held = gone_among(alloc, &heads, &BTreeSet::new(alloc))?;
+    sorted(alloc, &held)
+}
+
 /// Takes the files of deleted mail out of the store, but of these mails, and those that no held mail names: how many files of deleted mail
 /// there were that went.
 ///
 /// A mail is deleted as [`deleted_mails`] says; its revisions stay. Files of the
 /// Maildir stay, and those that aren't told yet are taken in again by the next settling. It is called between syncs, as
-/// [`sweep_folder`](crate::sweep_folder) is. Where another device takes the deletion back, the file comes with what it tells, or is lacking.
+/// [`sweep_folder`] is. Where another device takes the deletion back, the file comes with what it tells, or is lacking.
 pub fn expire_folder<R: Files<File = File> + AllocGlobal + Clone + Drop>(
     folder: &mut OpenFolder<R>,
     spared: &[Digest],
@@ -55,20 +76,16 @@ pub fn expire_folder<R: Files<File = File> + AllocGlobal + Clone + Drop>(
     let stored = stored_in(folder)?;
     let expired = count_among(&stored, &gone) as u64;
     let stays = sorted(alloc, &stays)?;
-    match sweep(alloc, &mut folder.tree, &stays) {
-        Ok(()) => Ok(expired),
-        Err(fault) => Err(said(&folder.tree, fault)),
-    }
+    said(sweep(alloc, &mut folder.tree, &stays), &folder.tree)?;
+    Ok(expired)
 }
 
 /// The digests of the store's files.
 fn stored_in<R: Files<File = File> + AllocGlobal + Clone + Drop>(
     folder: &mut OpenFolder<R>,
 ) -> Result<Vec<Digest>, FoldFault> {
-    match stored(folder.alloc, &mut folder.tree) {
-        Ok(stored) => Ok(stored.digests),
-        Err(fault) => Err(said(&folder.tree, fault)),
-    }
+    let stored = said(stored(folder.alloc, &mut folder.tree), &folder.tree)?;
+    Ok(stored.digests)
 }
 
 /// Adds the digests to the set.
@@ -92,7 +109,9 @@ fn among(
 {
     let mut found = Vec::new(alloc);
     for digest in digests {
-        push_if(&mut found, *digest, mails.contains(digest))?;
+        if mails.contains(digest) {
+            found.push(*digest)?;
+        }
     }
     Ok(found)
 }
@@ -105,16 +124,6 @@ fn count_among(digests: &[Digest], mails: &BTreeSet<Digest>) -> usize
         .iter()
         .filter(|digest| mails.contains(*digest))
         .count()
-}
-
-/// Appends the digest, if it is wanted.
-fn push_if(found: &mut Vec<Digest>, digest: Digest, is_wanted: bool) -> Result<(), AllocError>
-    ensures { OnOk result (found.new.items ≡ found.old.items ++ (if is_wanted then digest ∷ [] else [])) }
-{
-    if is_wanted {
-        found.push(digest)?;
-    }
-    Ok(())
 }
 
 /// The mails whose files the replica needs: those that some head or push-out has stand otherwise than gone.
@@ -170,18 +179,10 @@ fn sorted(alloc: Global, digests: &BTreeSet<Digest>) -> Result<Vec<Digest>, Allo
     ensures sorted { IfOk result (λ list. IsSorted (slice_cmp nat_cmp) list.items) }
     ensures same { IfOk result (λ list. IsPermutation digests.now.keys list.items) }
 {
-    let mut list = listed(alloc, digests)?;
-    list.sort_unstable();
-    Ok(list)
-}
-
-/// The digests, in the order of the set.
-fn listed(alloc: Global, digests: &BTreeSet<Digest>) -> Result<Vec<Digest>, AllocError>
-    ensures { IfOk result (λ list. list.items ≡ digests.now.keys) }
-{
     let mut list = Vec::with_capacity(alloc, digests.len())?;
     for digest in digests {
         list.push(*digest)?;
     }
+    list.sort_unstable();
     Ok(list)
 }

@@ -127,27 +127,16 @@ pub(crate) fn concerned_by(
     acts: &[MailAct],
     lacking: &BTreeSet<Digest>,
 ) -> Result<Concerned, AllocError> {
-    if acts.is_empty() && lacking.is_empty() {
-        return Ok(none_concerned(alloc));
-    }
-    let items = held_items(alloc, replica)?;
+    let items = if acts.is_empty() && lacking.is_empty() {
+        BTreeMap::new(alloc)
+    } else {
+        held_items(alloc, replica)?
+    };
     let lacking = lacking_items(alloc, &items, lacking)?;
     let items = those_of(alloc, items, acts)?;
     let mails = held_mails(alloc, &items)?;
     let held = HeldSide { items, mails };
     Ok(Concerned { held, lacking })
-}
-
-/// Where nothing is done.
-fn none_concerned(alloc: Global) -> Concerned {
-    let held = HeldSide {
-        items: BTreeMap::new(alloc),
-        mails: Vec::new(alloc),
-    };
-    Concerned {
-        held,
-        lacking: Vec::new(alloc),
-    }
 }
 
 /// What is held of the acts' mails.

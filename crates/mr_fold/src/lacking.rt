@@ -6,7 +6,7 @@ ghost use Rattle.std.specs.Ordering.{is_eq};
 ghost use Rattle.mr_mail.specs.Label.{text_cmp};
 ghost use Rattle.mr_compare.specs.Sides.{at_digest};
 ghost use Rattle.mr_fold.specs.Lacking.{has_digest};
-ghost use Rattle.mr_fold.specs.inner.Lacking.{is_digest, is_lacking, is_missing, is_stored, is_told_of, unshown};
+ghost use Rattle.mr_fold.specs.inner.Lacking.{is_digest, is_missing, is_stored, is_told_of, unshown};
 ghost use Rattle.mr_fold.specs.inner.Lacking as specs;
 
 use crate::settling::HeldItems;
@@ -37,18 +37,6 @@ pub(crate) fn missing_mails(
     ensures { IfOk result (λ digests. (digest : List ℕ) → has_digest digests.keys digest ≡ is_missing (values index.now) mails.now digest) }
 {
     let stored = stored_digests(alloc, index)?;
-    let lacking = lacking_mails(alloc, mails, &stored)?;
-    Ok(lacking)
-}
-
-/// The held mails whose files the store doesn't have, but for those that are gone: they need none.
-fn lacking_mails(
-    alloc: Global,
-    mails: &[HeldMail],
-    stored: &BTreeSet<Digest>,
-) -> Result<BTreeSet<Digest>, AllocError>
-    ensures { IfOk result (λ digests. (digest : List ℕ) → has_digest digests.keys digest ≡ is_lacking stored.now.keys mails.now digest) }
-{
     let mut lacking = BTreeSet::new(alloc);
     for mail in mails {
         let needs_none = stored.contains(&mail.digest) || mail.view.is_gone();

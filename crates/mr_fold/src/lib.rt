@@ -52,12 +52,12 @@ mod targets;
 mod telling;
 
 pub use closed::{AtRest, note_at_rest, note_seen, noted_at_rest, seen_at_rest};
-pub use expiring::{deleted_mails, expire_folder, needed_mails};
+pub use expiring::{deleted_mails, expire_folder, needed_mails, sweep_folder};
 pub use fault::SettleFault;
 pub use fold_fault::FoldFault;
 pub use looking::{
     Looked, PassedOver, Settled, look, look_if_changed, settle_folder, settle_if_changed,
-    settle_if_edited, sweep_folder,
+    settle_if_edited,
 };
 pub use mark::mark_of;
 pub use message::{day_at, folder_lines, new_mail};

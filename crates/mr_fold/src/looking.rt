@@ -1,5 +1,5 @@
 //! An open folder is looked at, and settled. What real files take and give no contract says, so what is here is tested only.
-ghost use Rattle.std.specs.Prelude.{◌≡◌, ◌==◌, ◌&&◌, ◌<◌, ◌^◌, IfOk, length};
+ghost use Rattle.std.specs.Prelude.{◌≡◌, ◌<◌, ◌^◌, IfOk, length};
 ghost use Rattle.std.specs.Cmp.Lexicographic.{slice_cmp};
 ghost use Rattle.std.specs.List.Sorted.{IsPermutation, IsSorted};
 ghost use Rattle.std.specs.Ordering.{nat_cmp};
@@ -7,24 +7,20 @@ ghost use Rattle.std.specs.Ordering.{nat_cmp};
 use crate::disk_mails::DiskMails;
 use crate::fault::SettleFault;
 use crate::fold_fault::{FoldFault, files_failed};
-use crate::held_side::{Concerned, concerned_by, held_and_left, held_side};
+use crate::held_side::{Concerned, concerned_by, held_and_left};
 use crate::opening::{Kept, OpenFolder};
 use crate::rest_bytes::seen_bytes;
-use crate::resting::{
-    Stand, empty_notes, is_noted, is_noted_whole, names_digest, note_stand, stand_of,
-};
+use crate::resting::{Stand, empty_notes, has_seen, names_digest, note_stand, seen_at, stand_of};
 use crate::seeing::{Sight, seen};
 use crate::settling::settle_in_parts;
 use crate::targets::targets_of;
 use mr_compare::{Digest, MailAct, Shown, Tally, tally_of};
-use mr_folder::{DiskTree, FilePath, FolderNames, FolderPath, StoreFault, sweep, unlink};
-use mr_itemset::SparingKnowledge;
+use mr_folder::{DiskTree, FilePath, FolderPath, StoreFault, unlink};
 use mr_kept::KeptFault;
 use mr_maildir::{Layout, MailFile};
-use mr_replica::Replica;
-use mr_scan::{FolderTable, Scan};
+use mr_scan::FolderTable;
 use mr_version::ItemId;
-use std::alloc::{AllocError, Global};
+use std::alloc::Global;
 use std::collections::BTreeMap;
 use std::fs::File;
 use std::mem;
@@ -99,7 +95,8 @@ pub fn settle_folder<R: Files<File = File> + AllocGlobal + Clone + Drop>(
     folder: &mut OpenFolder<R>,
     most: Option<usize>,
 ) -> Result<Settled, FoldFault> {
-    let mut found = found_in(folder, most)?;
+    let listed = listed_at(folder.alloc, &mut folder.tree, folder.layout)?;
+    let mut found = found_at(folder, listed, most)?;
     let done = settle_found(folder, &mut found);
     let settled = settled_of(found);
     done?;
@@ -121,10 +118,11 @@ pub fn settle_if_changed<R: Files<File = File> + AllocGlobal + Clone + Drop>(
     most: Option<usize>,
 ) -> Result<Settled, FoldFault> {
     let (listed, stand) = listed_and_stand(rt, root, folder)?;
-    if rests(rt, root, &stand) {
+    if seen_at(rt, root, &stand).is_some() {
         return Ok(at_rest(listed));
     }
-    let before = with_names(folder, &listed, stand);
+    let names = names_digest(folder.alloc, &folder.tree, listed.table.folders());
+    let before = Before { stand, names };
     settle_and_note(rt, root, folder, listed, before, most)
 }
 
@@ -138,8 +136,9 @@ pub fn settle_if_edited<R: Files<File = File> + AllocGlobal + Clone + Drop>(
     most: Option<usize>,
 ) -> Result<Settled, FoldFault> {
     let (listed, stand) = listed_and_stand(rt, root, folder)?;
-    let before = with_names(folder, &listed, stand);
-    if rests_whole(rt, root, &before) {
+    let names = names_digest(folder.alloc, &folder.tree, listed.table.folders());
+    let before = Before { stand, names };
+    if rests_whole(rt, root, &before).unwrap_or(false) {
         return Ok(at_rest(listed));
     }
     settle_and_note(rt, root, folder, listed, before, most)
@@ -158,19 +157,9 @@ fn listed_and_stand<R: Files<File = File> + AllocGlobal + Clone + Drop>(
     root: &str,
     folder: &mut OpenFolder<R>,
 ) -> Result<(Listed, Option<Stand>), FoldFault> {
-    let listed = listed_in(folder)?;
+    let listed = listed_at(folder.alloc, &mut folder.tree, folder.layout)?;
     let stand = stand_of(rt, root, folder, &listed.table);
     Ok((listed, stand))
-}
-
-/// How the folder stands, with a digest of the names in these folders.
-fn with_names<R: Files<File = File> + AllocGlobal + Clone + Drop>(
-    folder: &OpenFolder<R>,
-    listed: &Listed,
-    stand: Option<Stand>,
-) -> Before {
-    let names = names_digest(folder.alloc, &folder.tree, listed.table.folders());
-    Before { stand, names }
 }
 
 /// Nothing was done.
@@ -202,34 +191,18 @@ fn settle_and_note<R: Files<File = File> + AllocGlobal + Clone + Drop>(
     Ok(settled)
 }
 
-/// Whether it is noted that the folder stood so.
-fn rests<R: Files<File = File> + AllocGlobal>(rt: &R, root: &str, stand: &Option<Stand>) -> bool {
-    match stand {
-        Some(stand) => is_noted(rt, root, stand),
-        None => false,
-    }
-}
-
 /// Whether it is noted that the folder stood so, with these names and the sizes that the store's files have.
 fn rests_whole<R: Files<File = File> + AllocGlobal + Clone + Drop>(
     rt: &R,
     root: &str,
     before: &Before,
-) -> bool {
-    match (&before.stand, &before.names) {
-        (Some(stand), Some(names)) => is_noted_whole(rt, root, stand, names),
-        _ => false,
-    }
+) -> Option<bool> {
+    let seen = seen_at(rt, root, &before.stand)?;
+    has_seen(rt, root, &seen, before.names.as_ref()?)
 }
 
-/// Whether a scan saw all that is in the folders, and each name is that of a mail's file.
-fn is_told(scan: &Scan) -> bool
-    ensures { result ≡ (scan.now.is_quiet && (scan.now.unreadable == 0)) }
-{
-    scan.is_quiet && scan.unreadable == 0
-}
-
-/// Notes that nothing has to be done in a folder that stood so before this time, if it stands so still and all names in it were told.
+/// Notes that nothing has to be done in a folder that stood so before this time, if it stands so still, a scan saw all that is in it, and each name
+/// is that of a mail's file.
 fn note_rest<R: Files<File = File> + AllocGlobal + Clone + Drop>(
     rt: &R,
     root: &str,
@@ -238,12 +211,14 @@ fn note_rest<R: Files<File = File> + AllocGlobal + Clone + Drop>(
     before: &Before,
     now: Option<u64>,
 ) {
-    if !is_told(&found.sight.scan) {
+    let scan = &found.sight.scan;
+    if !scan.is_quiet || scan.unreadable != 0 {
         return;
     }
     let after = stand_of(rt, root, folder, &found.listed.table);
     if let (Some(stand), Some(after), Some(now)) = (&before.stand, &after, now) {
         let seen = seen_before(folder.alloc, &before.names, &found.sight.sizes);
+        let seen = seen.unwrap_or(Vec::new(folder.alloc));
         note_stand(rt, root, stand, after, &seen, now);
     }
 }
@@ -253,11 +228,8 @@ fn seen_before(
     alloc: Global,
     names: &Option<[u8; 32]>,
     sizes: &Option<Vec<(u64, u64)>>,
-) -> Vec<u8> {
-    match (names, sizes) {
-        (Some(names), Some(sizes)) => seen_bytes(alloc, names, sizes).unwrap_or(Vec::new(alloc)),
-        _ => Vec::new(alloc),
-    }
+) -> Option<Vec<u8>> {
+    seen_bytes(alloc, names.as_ref()?, sizes.as_ref()?).ok()
 }
 
 /// Does what is to be done for what was found. Whether that was nothing.
@@ -270,8 +242,18 @@ fn settle_found<R: Files<File = File> + AllocGlobal + Clone + Drop>(
     }
     let_go(folder, &found.sight.edited)?;
     let created = mem::replace(&mut found.sight.created, BTreeMap::new(folder.alloc));
-    show(folder, found, created)?;
-    note_settled(folder, copied(folder.alloc, &found.concerned.lacking)?)?;
+    let done = settle_seen(
+        folder.alloc,
+        &mut folder.kept,
+        &mut folder.tree,
+        found,
+        created,
+    );
+    if let Err(fault) = done {
+        let log = folder.kept.journal().device();
+        return Err(fault.explained(log.error(), folder.tree.error()));
+    }
+    note_settled(folder, &found.concerned.lacking)?;
     Ok(false)
 }
 
@@ -292,15 +274,10 @@ fn let_go<R: Files<File = File> + AllocGlobal + Clone + Drop>(
 
 /// What was done, what was edited, and what was passed over.
 fn settled_of(found: Found) -> Settled {
-    let Looked {
-        acts,
-        edited,
-        passed_over,
-    } = told_of(found);
     Settled {
-        tally: tally_of(&acts),
-        edited,
-        passed_over,
+        tally: tally_of(&found.sight.acts),
+        edited: found.sight.edited.len(),
+        passed_over: passed_over(found.listed, found.sight.scan.unreadable),
     }
 }
 
@@ -321,7 +298,8 @@ fn is_settled<R: Drop>(folder: &OpenFolder<R>, found: &Found) -> bool {
 pub fn look<R: Files<File = File> + AllocGlobal + Clone + Drop>(
     folder: &mut OpenFolder<R>,
 ) -> Result<Looked, FoldFault> {
-    Ok(told_of(found_in(folder, Some(usize::MAX))?))
+    let listed = listed_at(folder.alloc, &mut folder.tree, folder.layout)?;
+    Ok(told_of(found_at(folder, listed, Some(usize::MAX))?))
 }
 
 /// As [`look`], but where [`settle_if_changed`] wouldn't look either, nothing is done.
@@ -331,7 +309,7 @@ pub fn look_if_changed<R: Files<File = File> + AllocGlobal + Clone + Drop>(
     folder: &mut OpenFolder<R>,
 ) -> Result<Looked, FoldFault> {
     let (listed, stand) = listed_and_stand(rt, root, folder)?;
-    if rests(rt, root, &stand) {
+    if seen_at(rt, root, &stand).is_some() {
         return Ok(Looked {
             acts: Vec::new(folder.alloc),
             edited: 0,
@@ -367,70 +345,16 @@ pub(crate) fn passed_over(listed: Listed, names: u64) -> PassedOver {
     }
 }
 
-/// Takes the files out of the store that no held mail names. Files of the Maildir stay, and those that aren't told yet are taken
-/// in again by the next settling. It is called between syncs, since a sync brings files before it is told what they are.
-pub fn sweep_folder<R: Files<File = File> + AllocGlobal + Clone + Drop>(
-    folder: &mut OpenFolder<R>,
-) -> Result<(), FoldFault> {
-    let alloc = folder.alloc;
-    let held = sorted_digests(alloc, folder.kept.replica())?;
-    match sweep(alloc, &mut folder.tree, &held) {
-        Ok(()) => Ok(()),
-        Err(fault) => Err(said(&folder.tree, fault)),
-    }
-}
-
-/// The digests of what is held, sorted.
-fn sorted_digests(
-    alloc: Global,
-    replica: &Replica<SparingKnowledge>,
-) -> Result<Vec<Digest>, AllocError>
-    ensures { IfOk result (λ digests. IsSorted (slice_cmp nat_cmp) digests.items) }
-{
-    let held = held_side(alloc, replica)?;
-    let mut digests = Vec::with_capacity(alloc, held.mails.len())?;
-    for mail in &held.mails {
-        digests.push(mail.digest)?;
-    }
-    digests.sort_unstable();
-    Ok(digests)
-}
-
-/// Looks at a folder.
-fn found_in<R: Files<File = File> + AllocGlobal + Clone + Drop>(
-    folder: &mut OpenFolder<R>,
-    most: Option<usize>,
-) -> Result<Found, FoldFault> {
-    let listed = listed_in(folder)?;
-    found_at(folder, listed, most)
-}
-
 /// Looks at a folder with these folders.
 fn found_at<R: Files<File = File> + AllocGlobal + Clone + Drop>(
     folder: &mut OpenFolder<R>,
     listed: Listed,
     most: Option<usize>,
 ) -> Result<Found, FoldFault> {
-    look_at(
-        folder.alloc,
-        folder.kept.replica(),
-        &mut folder.tree,
-        listed,
-        &folder.shown,
-        most,
-    )
-}
-
-/// Looks at these files, as those of this replica that were shown so far.
-fn look_at<R: Files<File = File> + AllocGlobal + Clone + Drop>(
-    alloc: Global,
-    replica: &Replica<SparingKnowledge>,
-    tree: &mut DiskTree<R>,
-    listed: Listed,
-    shown: &Shown,
-    most: Option<usize>,
-) -> Result<Found, FoldFault> {
-    let (mails, left) = held_and_left(alloc, replica, shown)?;
+    let alloc = folder.alloc;
+    let replica = folder.kept.replica();
+    let (mails, left) = held_and_left(alloc, replica, &folder.shown)?;
+    let tree = &mut folder.tree;
     let sight = seen(alloc, replica, tree, &listed.table, left, mails, most)?;
     let concerned = concerned_by(alloc, replica, &sight.acts, &sight.lacking)?;
     Ok(Found {
@@ -440,13 +364,6 @@ fn look_at<R: Files<File = File> + AllocGlobal + Clone + Drop>(
     })
 }
 
-/// The folders that are there.
-fn listed_in<R: Files<File = File> + AllocGlobal + Clone + Drop>(
-    folder: &mut OpenFolder<R>,
-) -> Result<Listed, FoldFault> {
-    listed_at(folder.alloc, &mut folder.tree, folder.layout)
-}
-
 /// The folders of these files, which lie so.
 pub(crate) fn listed_at<R: Files<File = File> + AllocGlobal + Clone + Drop>(
     alloc: Global,
@@ -454,18 +371,13 @@ pub(crate) fn listed_at<R: Files<File = File> + AllocGlobal + Clone + Drop>(
     layout: Layout,
 ) -> Result<Listed, FoldFault> {
     match tree.folders(alloc) {
-        Ok(found) => listed_of(alloc, layout, found),
+        Ok(found) => {
+            let unreadable = found.unreadable;
+            let table = FolderTable::of(alloc, layout, in_order(found.folders))?;
+            Ok(Listed { table, unreadable })
+        }
         Err(_) => Err(files_failed(tree.error())),
     }
-}
-
-fn listed_of(alloc: Global, layout: Layout, found: FolderNames) -> Result<Listed, FoldFault> {
-    let FolderNames {
-        folders,
-        unreadable,
-    } = found;
-    let table = FolderTable::of(alloc, layout, in_order(folders))?;
-    Ok(Listed { table, unreadable })
 }
 
 /// The folders in the order of their paths, the Maildir itself first. So which of two with one label is taken is the same at each settling,
@@ -480,32 +392,6 @@ fn in_order(folders: Vec<FolderPath>) -> Vec<FolderPath>
 }
 
 /// Tells what was seen, keeps it, and has the files stand as they are held.
-fn show<R: Files<File = File> + AllocGlobal + Clone + Drop>(
-    folder: &mut OpenFolder<R>,
-    found: &Found,
-    created: BTreeMap<Digest, Vec<MailFile>>,
-) -> Result<(), FoldFault> {
-    match settle_seen(
-        folder.alloc,
-        &mut folder.kept,
-        &mut folder.tree,
-        found,
-        created,
-    ) {
-        Ok(()) => Ok(()),
-        Err(fault) => Err(explained(folder, fault)),
-    }
-}
-
-/// The fault with what the system said.
-fn explained<R: Files<File = File> + AllocGlobal + Clone + Drop>(
-    folder: &OpenFolder<R>,
-    fault: SettleFault,
-) -> FoldFault {
-    fault.explained(folder.kept.journal().device().error(), folder.tree.error())
-}
-
-/// Settles what was seen.
 fn settle_seen<R: Files<File = File> + AllocGlobal + Clone + Drop>(
     alloc: Global,
     kept: &mut Kept,
@@ -515,68 +401,45 @@ fn settle_seen<R: Files<File = File> + AllocGlobal + Clone + Drop>(
 ) -> Result<(), SettleFault> {
     let acts = &found.sight.acts;
     let (moved, standing) = acts.split_at(found.sight.moved.min(acts.len()));
-    let lacking = few(copied(alloc, &found.concerned.lacking)?)?;
+    let lacking = few(alloc, &found.concerned.lacking)?;
     let targets = targets_of(alloc, kept.replica(), moved, &found.concerned.held.mails)?;
-    let mut files = DiskMails::new(
-        alloc,
-        tree,
-        &found.listed.table,
-        &found.sight.scan,
-        created,
-        &targets,
-    )?;
-    let told = settle_in_parts(
-        alloc,
-        kept,
-        &mut files,
-        moved,
-        standing,
-        &found.concerned.held.items,
-        &lacking,
-    );
+    let (table, scan) = (&found.listed.table, &found.sight.scan);
+    let mut files = DiskMails::new(alloc, tree, table, scan, created, &targets)?;
+    let held = &found.concerned.held.items;
+    let told = settle_in_parts(alloc, kept, &mut files, moved, standing, held, &lacking);
     drop(files);
     told
 }
 
 /// Has the folder know that all is shown, but for these items.
-fn note_settled<R: Drop>(
-    folder: &mut OpenFolder<R>,
-    lacking: Vec<ItemId>,
-) -> Result<(), FoldFault> {
-    let lacking = match few(lacking) {
-        Ok(lacking) => lacking,
-        Err(_) => return Err(FoldFault::Files),
-    };
+fn note_settled<R: Drop>(folder: &mut OpenFolder<R>, lacking: &[ItemId]) -> Result<(), FoldFault> {
     let entries = folder.kept.replica().feed().len();
-    folder.shown = Shown::new(entries as u64, lacking);
+    match few(folder.alloc, lacking) {
+        Ok(lacking) => folder.shown = Shown::new(entries as u64, lacking),
+        Err(fault) => return Err(fault.explained(None, None)),
+    }
     Ok(())
 }
 
-/// Equal items.
-fn copied(alloc: Global, items: &[ItemId]) -> Result<Vec<ItemId>, AllocError>
-    ensures { IfOk result (λ copy. copy.items ≡ items.now) }
-{
-    Vec::from_slice(alloc, items)
-}
-
-/// The items, if they are as few as a note takes: fewer than 2^32.
-fn few(items: Vec<ItemId>) -> Result<Vec<ItemId>, SettleFault>
-    ensures same { IfOk result (λ kept. kept.items ≡ items.items) }
-    ensures few { IfOk result (λ kept. length kept.items < 2 ^ 32) }
+/// Equal items, if they are as few as a note takes: fewer than 2^32.
+fn few(alloc: Global, items: &[ItemId]) -> Result<Vec<ItemId>, SettleFault>
+    ensures same { IfOk result (λ few. few.items ≡ items.now) }
+    ensures few { IfOk result (λ few. length few.items < 2 ^ 32) }
 {
     if items.len() > MAX_LACKING {
         return Err(SettleFault::Kept(KeptFault::TooLarge));
     }
-    Ok(items)
+    Ok(Vec::from_slice(alloc, items)?)
 }
 
-/// A fault of the store, with what the system said of the files.
-pub(crate) fn said<R: Files<File = File> + AllocGlobal + Clone + Drop>(
+/// What a call of the store gave, or its fault with what the system said of the files.
+pub(crate) fn said<T: Drop, R: Files<File = File> + AllocGlobal + Clone + Drop>(
+    given: Result<T, StoreFault>,
     tree: &DiskTree<R>,
-    fault: StoreFault,
-) -> FoldFault {
-    match fault {
-        StoreFault::OutOfMemory => FoldFault::OutOfMemory,
-        StoreFault::Failed => files_failed(tree.error()),
+) -> Result<T, FoldFault> {
+    match given {
+        Ok(given) => Ok(given),
+        Err(StoreFault::OutOfMemory) => Err(FoldFault::OutOfMemory),
+        Err(StoreFault::Failed) => Err(files_failed(tree.error())),
     }
 }

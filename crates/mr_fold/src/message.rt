@@ -1,7 +1,6 @@
 //! The message of a new mail.
 ghost use Rattle.std.specs.Prelude.{◌≡◌, ◌<◌, ◌↔◌, Err, IfErr, IfOk, length, map, string_bytes};
 ghost use Rattle.mr_mail.specs.declared.label.TheConstants.{MAX_LABELS};
-ghost use Rattle.mr_maildir.specs.Reference.{reference_text};
 ghost use Rattle.mr_scan.specs.Folders.{folder_parts};
 ghost use Rattle.mr_fold.specs.Message.{IsUnwritten, day_at, folder_lines, new_mail};
 ghost use Rattle.mr_fold.specs.Message as specs;
@@ -36,24 +35,16 @@ pub fn new_mail(
     let Some(place) = view.into_place(day) else {
         return Err(SettleFault::TooManyFolders(*digest));
     };
-    let body = body_of(alloc, digest, size, lines)?;
+    let reference = MailReference {
+        digest: *digest,
+        size,
+        lines,
+    };
+    let body = reference.write(alloc)?;
     match Message::try_of_place(alloc, "", "", body.as_bytes(), place) {
         Ok(message) => Ok(message),
         Err(_) => Err(SettleFault::OutOfMemory),
     }
-}
-
-/// The body of a message for a file of this digest and size, with these lines.
-fn body_of(alloc: Global, digest: &Digest, size: u64, lines: &str) -> Result<String, AllocError>
-    ensures { IfOk result (λ body. string_bytes body ≡ reference_text (record { digest = digest.now; size = size; lines = lines.now })) }
-{
-    let digest = *digest;
-    let reference = MailReference {
-        digest,
-        size,
-        lines,
-    };
-    reference.write(alloc)
 }
 
 /// The day of a time in nanoseconds since 1970; the last one that there is, for a later time.
@@ -89,16 +80,9 @@ fn folder_line(
 ) -> Result<String, AllocError>
     ensures { IfOk result (λ text. string_bytes text ≡ specs.folder_line (string_bytes lines) (folder_parts folder.now) view.now) }
 {
-    if is_told(folder, view) {
+    if view.contains(&folder.label) && folder.name.as_str() != folder.label.as_str() {
         with_told_folder(alloc, lines.as_str(), &folder.label, folder.name.as_str())
     } else {
         Ok(lines)
     }
-}
-
-/// Whether the mail stands in the folder and the folder's name isn't its label.
-fn is_told(folder: &MailFolder, view: &View) -> bool
-    ensures { result ≡ specs.is_told (folder_parts folder.now) view.now }
-{
-    view.contains(&folder.label) && folder.name.as_str() != folder.label.as_str()
 }

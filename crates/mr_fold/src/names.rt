@@ -31,22 +31,17 @@ pub(crate) struct FileNames<'a> {
 }
 
 impl<'a> FileNames<'a> {
-    /// No names.
-    pub(crate) fn none(alloc: Global) -> FileNames<'a> {
-        FileNames {
-            alloc,
-            seen: Vec::new(alloc),
-            made: BTreeMap::new(alloc),
-        }
-    }
-
-    /// The names of the files that were seen. It takes 16 bytes for each file.
-    pub(crate) fn of(alloc: Global, scan: &'a Scan) -> Result<FileNames<'a>, AllocError> {
-        let mut seen = Vec::with_capacity(alloc, scan.mails.len())?;
-        for (digest, files) in scan.mails.iter() {
-            push_files(&mut seen, digest, files)?;
-        }
-        seen.sort_unstable_by(|a, b| a.file.unique().cmp(b.file.unique()));
+    /// The names of the files that were seen, if some are to be made.
+    pub(crate) fn of(
+        alloc: Global,
+        scan: &'a Scan,
+        are_made: bool,
+    ) -> Result<FileNames<'a>, AllocError> {
+        let seen = if are_made {
+            seen_files(alloc, scan)?
+        } else {
+            Vec::new(alloc)
+        };
         Ok(FileNames {
             alloc,
             seen,
@@ -130,6 +125,16 @@ impl<'a> FileNames<'a> {
         }
         Ok(())
     }
+}
+
+/// The files that were seen, in the order of the unique parts. It takes 16 bytes for each file.
+fn seen_files<'a>(alloc: Global, scan: &'a Scan) -> Result<Vec<SeenFile<'a>>, AllocError> {
+    let mut seen = Vec::with_capacity(alloc, scan.mails.len())?;
+    for (digest, files) in scan.mails.iter() {
+        push_files(&mut seen, digest, files)?;
+    }
+    seen.sort_unstable_by(|a, b| a.file.unique().cmp(b.file.unique()));
+    Ok(seen)
 }
 
 /// Puts the files of a mail behind the others.

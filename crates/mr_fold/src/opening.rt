@@ -13,7 +13,7 @@ use mr_kept::{Journaled, OpenFault, Opened, Setup};
 use mr_maildir::Layout;
 use mr_scan::default_layout;
 use mr_version::Author;
-use std::alloc::Global;
+use std::alloc::{AllocError, Global};
 use std::collections::BTreeMap;
 use std::fs::{self, File};
 use std::io::{self, ErrorKind};
@@ -80,7 +80,7 @@ fn made_log<R: Files<File = File> + AllocGlobal + Clone + Drop>(
 ) -> Result<DiskFile, FoldFault> {
     let alloc = rt.alloc();
     make_folder(rt, root)?;
-    let path = log_path(alloc, root)?;
+    let path = own_path(alloc, root, "log")?;
     let file = empty_log(alloc, DiskFile::open(rt, path.as_str())?)?;
     write_settings(rt, root, layout)?;
     Ok(file)
@@ -104,7 +104,9 @@ fn make_folder<R: Files<File = File> + AllocGlobal + Clone + Drop>(
 fn empty_log(alloc: Global, file: DiskFile) -> Result<DiskFile, FoldFault> {
     let (journal, entries) = match Journal::open(alloc, file) {
         Ok(opened) => opened,
-        Err((fault, file)) => return Err(unopened(OpenFault::Journal(fault), &file)),
+        Err((fault, file)) => {
+            return Err(FoldFault::Journal(OpenFault::Journal(fault).explained(file.error())));
+        }
     };
     if entries.is_empty() {
         Ok(journal.into_device())
@@ -113,9 +115,13 @@ fn empty_log(alloc: Global, file: DiskFile) -> Result<DiskFile, FoldFault> {
     }
 }
 
-/// Why the journal isn't opened, with the system's words.
-fn unopened(fault: OpenFault, file: &DiskFile) -> FoldFault {
-    FoldFault::Journal(fault.explained(file.error()))
+/// What was begun or opened, or why nothing was, with the system's words.
+fn opened<K: Drop>(opened: Result<K, (OpenFault, DiskFile)>) -> Result<K, FoldFault> {
+    match opened {
+        Ok(kept) => Ok(kept),
+        Err((OpenFault::NoReplica, _file)) => Err(FoldFault::NotMade),
+        Err((fault, file)) => Err(FoldFault::Journal(fault.explained(file.error()))),
+    }
 }
 
 /// Begins a folder's replica in the journal of this file, which has no entry yet. It touches no other file, so the layout isn't noted.
@@ -140,15 +146,7 @@ pub fn begin_log<R: Files<File = File> + AllocGlobal>(
         birth,
         mark,
     };
-    begun(Kept::begin(rt.alloc(), file, setup))
-}
-
-/// The replica that was begun, or why none was.
-fn begun<K: Drop>(begun: Result<K, (OpenFault, DiskFile)>) -> Result<K, FoldFault> {
-    match begun {
-        Ok(kept) => Ok(kept),
-        Err((fault, file)) => Err(unopened(fault, &file)),
-    }
+    opened(Kept::begin(rt.alloc(), file, setup))
 }
 
 /// Opens a folder that [`init`] made.
@@ -172,7 +170,7 @@ pub fn lock<R: Files<File = File> + AllocGlobal>(
     root: &str,
 ) -> Result<DiskFile, FoldFault> {
     check_made(rt, root)?;
-    let path = log_path(rt.alloc(), root)?;
+    let path = own_path(rt.alloc(), root, "log")?;
     Ok(DiskFile::open(rt, path.as_str())?)
 }
 
@@ -183,12 +181,7 @@ pub fn open_locked<R: Files<File = File> + AllocGlobal + Clone + Drop>(
     log: DiskFile,
 ) -> Result<OpenFolder<R>, FoldFault> {
     let (kept, beside) = with_beside(rt, root, open_log(rt, log))?;
-    let Beside {
-        tree,
-        layout,
-        shown,
-        meetings,
-    } = beside;
+    let ((tree, layout), shown, meetings) = beside;
     Ok(OpenFolder {
         alloc: rt.alloc(),
         kept,
@@ -199,23 +192,17 @@ pub fn open_locked<R: Files<File = File> + AllocGlobal + Clone + Drop>(
     })
 }
 
-/// What an open folder has beside its replica.
-#[derive(Drop)]
-struct Beside<R> {
-    tree: DiskTree<R>,
-    layout: Layout,
-    shown: Shown,
-    meetings: BTreeMap<u16, Meeting>,
-}
+/// What an open folder has beside its replica: its files and how its folders lie, how far the Maildir shows the feed, and the last meetings.
+type Beside<R> = ((DiskTree<R>, Layout), Shown, BTreeMap<u16, Meeting>);
 
 /// The replica that was opened, with what its folder has beside it.
 fn with_beside<K: Drop, R: Files<File = File> + AllocGlobal + Clone + Drop>(
     rt: &R,
     root: &str,
-    opened: Result<(K, Vec<Note>), FoldFault>,
+    opened: Result<(K, Opened), FoldFault>,
 ) -> Result<(K, Beside<R>), FoldFault> {
-    let (kept, notes) = opened?;
-    let beside = open_beside(rt, root, &notes)?;
+    let (kept, opened) = opened?;
+    let beside = open_beside(rt, root, &opened.notes)?;
     Ok((kept, beside))
 }
 
@@ -228,13 +215,7 @@ fn open_beside<R: Files<File = File> + AllocGlobal + Clone + Drop>(
     let alloc = rt.alloc();
     let shown = shown_of(alloc, notes)?;
     let meetings = meetings_of(alloc, notes)?;
-    let (tree, layout) = open_tree(rt, root)?;
-    Ok(Beside {
-        tree,
-        layout,
-        shown,
-        meetings,
-    })
+    Ok((open_tree(rt, root)?, shown, meetings))
 }
 
 /// Whether there is a folder that has a journal: `NoFolder` and `NotMade` where there is none. The journal isn't opened.
@@ -244,7 +225,7 @@ pub fn check_made<R: Files + AllocGlobal>(rt: &R, root: &str) -> Result<(), Fold
         Ok(_) => return Err(FoldFault::NoFolder(io::Error::from(ErrorKind::NotADirectory))),
         Err(said) => return Err(FoldFault::NoFolder(said)),
     }
-    let path = log_path(rt.alloc(), root)?;
+    let path = own_path(rt.alloc(), root, "log")?;
     if fs::exists(rt, path.as_str())? {
         Ok(())
     } else {
@@ -252,24 +233,13 @@ pub fn check_made<R: Files + AllocGlobal>(rt: &R, root: &str) -> Result<(), Fold
     }
 }
 
-/// Opens the replica, with the notes of its journal.
+/// Opens the replica, with what its journal has beside it.
 fn open_log<R: Files<File = File> + AllocGlobal>(
     rt: &R,
     file: DiskFile,
-) -> Result<(Kept, Vec<Note>), FoldFault> {
+) -> Result<(Kept, Opened), FoldFault> {
     let mark = mark_for(rt, &file)?;
-    with_notes(Kept::open(rt.alloc(), file, &mark, None))
-}
-
-/// The replica that was opened, with the notes of its journal, or why none was.
-fn with_notes<K: Drop>(
-    opened: Result<(K, Opened), (OpenFault, DiskFile)>,
-) -> Result<(K, Vec<Note>), FoldFault> {
-    match opened {
-        Ok((kept, opened)) => Ok((kept, opened.notes)),
-        Err((OpenFault::NoReplica, _file)) => Err(FoldFault::NotMade),
-        Err((fault, file)) => Err(unopened(fault, &file)),
-    }
+    opened(Kept::open(rt.alloc(), file, &mark, None))
 }
 
 /// Opens the files, and finds how the folders lie.
@@ -282,20 +252,9 @@ pub(crate) fn open_tree<R: Files<File = File> + AllocGlobal + Clone + Drop>(
     let mut tree = DiskTree::open(rt.clone()?, String::from_str(alloc, root)?)?;
     let layout = match told {
         Some(layout) => layout,
-        None => found_layout(alloc, &mut tree)?,
+        None => default_layout(&tree.folders(alloc).map_err(|_| FoldFault::Files)?.folders),
     };
     Ok((tree, layout))
-}
-
-/// How the folders seem to lie.
-fn found_layout<R: Files<File = File> + AllocGlobal + Clone + Drop>(
-    alloc: Global,
-    tree: &mut DiskTree<R>,
-) -> Result<Layout, FoldFault> {
-    match tree.folders(alloc) {
-        Ok(found) => Ok(default_layout(&found.folders)),
-        Err(_) => Err(FoldFault::Files),
-    }
 }
 
 /// The mark that a journal in this file has, wherever it lies. A machine that tells no id has an empty one.
@@ -317,7 +276,7 @@ fn write_settings<R: Files<File = File> + AllocGlobal>(
     root: &str,
     layout: Option<Layout>,
 ) -> Result<(), FoldFault> {
-    let path = config_path(rt.alloc(), root)?;
+    let path = own_path(rt.alloc(), root, "config")?;
     match layout {
         Some(layout) => {
             let text = settings_text(rt.alloc(), layout)?;
@@ -325,22 +284,21 @@ fn write_settings<R: Files<File = File> + AllocGlobal>(
             File::open(rt, path.as_str())?.sync_all()?;
             Ok(())
         }
-        None => remove_settings(rt, path.as_str()),
+        None => Ok(remove_file(rt, path.as_str())?),
     }
 }
 
-/// Removes the settings, if there are any.
-fn remove_settings<R: Files>(rt: &R, path: &str) -> Result<(), FoldFault> {
+/// Removes a file, if it is there.
+pub(crate) fn remove_file<R: Files>(rt: &R, path: &str) -> io::Result<()> {
     match fs::remove_file(rt, path) {
-        Ok(()) => Ok(()),
-        Err(said) if said.kind() == ErrorKind::NotFound => Ok(()),
-        Err(said) => Err(FoldFault::System(said)),
+        Err(said) if said.kind() != ErrorKind::NotFound => Err(said),
+        _ => Ok(()),
     }
 }
 
 /// The layout that the settings tell, if there are any.
 fn read_settings<R: Files + AllocGlobal>(rt: &R, root: &str) -> Result<Option<Layout>, FoldFault> {
-    let path = config_path(rt.alloc(), root)?;
+    let path = own_path(rt.alloc(), root, "config")?;
     match fs::read_to_string(rt, path.as_str()) {
         Ok(text) => layout_told(text.as_str()),
         Err(said) if said.kind() == ErrorKind::NotFound => Ok(None),
@@ -348,12 +306,7 @@ fn read_settings<R: Files + AllocGlobal>(rt: &R, root: &str) -> Result<Option<La
     }
 }
 
-/// Where the journal is.
-fn log_path(alloc: Global, root: &str) -> Result<String, FoldFault> {
-    Ok(format!(in alloc; "{root}/.mailfold/log")?)
-}
-
-/// Where the settings are.
-fn config_path(alloc: Global, root: &str) -> Result<String, FoldFault> {
-    Ok(format!(in alloc; "{root}/.mailfold/config")?)
+/// The path of one of the program's own files or folders.
+pub(crate) fn own_path(alloc: Global, root: &str, inside: &str) -> Result<String, AllocError> {
+    Ok(format!(in alloc; "{root}/.mailfold/{inside}")?)
 }

@@ -71,17 +71,14 @@ fn push_act(parts: &mut Parted, mail: MailAct, is_moved: bool) -> Result<(), All
 /// Whether files have to be moved for the act.
 fn is_moved(alloc: Global, mail: &MailAct, scan: &Scan) -> Result<bool, AllocError> {
     match &mail.act {
-        Act::Follow => Ok(true),
-        Act::Remove => Ok(true),
+        Act::Follow | Act::Remove => Ok(true),
         Act::Edit(view) => moves(alloc, seen(scan, &mail.digest), view, &mail.digest),
-        Act::Agree => Ok(false),
-        Act::Create => Ok(false),
-        Act::Delete => Ok(false),
+        Act::Agree | Act::Create | Act::Delete => Ok(false),
     }
 }
 
 /// The mail's files that the scan saw.
-fn seen<'a>(scan: &'a Scan, digest: &Digest) -> &'a [MailFile] {
+pub(crate) fn seen<'a>(scan: &'a Scan, digest: &Digest) -> &'a [MailFile] {
     match scan.mails.get(digest) {
         Some(files) => files,
         None => &[],
@@ -101,18 +98,16 @@ fn moves(alloc: Global, seen: &[MailFile], view: &View, digest: &Digest) -> Resu
     }
 }
 
-/// The files of those mails that these acts create, of a scan's files. It costs a removal for each other mail.
+/// The files of those mails that these acts create, of a scan's files. It costs a binary search for each of these.
 pub(crate) fn created_files(
     alloc: Global,
     files: BTreeMap<Digest, Vec<MailFile>>,
     acts: &[MailAct],
 ) -> Result<BTreeMap<Digest, Vec<MailFile>>, AllocError> {
+    let mut files = files;
     let created = created_mails(alloc, acts)?;
-    if created.is_empty() {
-        return Ok(BTreeMap::new(alloc));
-    }
-    let others = mails_but(alloc, &files, &created)?;
-    Ok(without(files, &others))
+    files.retain(|digest, _| created.binary_search(digest).is_ok());
+    Ok(files)
 }
 
 /// The mails that these acts create, in rising order of their digests.
@@ -125,31 +120,4 @@ fn created_mails(alloc: Global, acts: &[MailAct]) -> Result<Vec<Digest>, AllocEr
     }
     created.sort_unstable();
     Ok(created)
-}
-
-/// The mails of these files but for some, which are in rising order of their digests.
-fn mails_but(
-    alloc: Global,
-    files: &BTreeMap<Digest, Vec<MailFile>>,
-    some: &[Digest],
-) -> Result<Vec<Digest>, AllocError> {
-    let mut others = Vec::new(alloc);
-    for digest in files.keys() {
-        if some.binary_search(digest).is_err() {
-            others.push(*digest)?;
-        }
-    }
-    Ok(others)
-}
-
-/// The files of all mails but of these.
-fn without(
-    files: BTreeMap<Digest, Vec<MailFile>>,
-    mails: &[Digest],
-) -> BTreeMap<Digest, Vec<MailFile>> {
-    let mut files = files;
-    for digest in mails {
-        files.remove(digest);
-    }
-    files
 }

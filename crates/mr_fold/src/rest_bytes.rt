@@ -27,23 +27,17 @@ pub(crate) fn replica_bytes(
     ensures { IfOk result (λ bytes. bytes.items ≡ specs.replica_bytes birth layout replica.now shown.now) }
 {
     let mut out = Vec::from_slice(alloc, &birth)?;
-    put_numbers(&mut out, &counts(layout, replica, shown))?;
-    put_items(&mut out, shown.lacking())?;
-    Ok(out)
-}
-
-/// The counts of a replica, of what its Maildir shows, and how its folders lie.
-fn counts(layout: Layout, replica: &Replica<SparingKnowledge>, shown: &Shown) -> [u64; 6]
-    ensures { result ≡ specs.counts layout replica.now shown.now }
-{
-    [
+    let counts = [
         layout_number(layout),
         u64::from(replica.id().id()),
         replica.log().len() as u64,
         replica.feed().len() as u64,
         shown.entries(),
         shown.lacking().len() as u64,
-    ]
+    ];
+    put_numbers(&mut out, &counts)?;
+    put_items(&mut out, shown.lacking())?;
+    Ok(out)
 }
 
 fn layout_number(layout: Layout) -> u64

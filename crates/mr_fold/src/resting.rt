@@ -2,15 +2,14 @@
 //! them and the sizes of the store's files. What real files take and give no contract says, so what is here is tested only.
 ghost use Rattle.std.specs.Prelude.{◌≡◌, ◌+◌, ◌*◌, ◌<◌, ◌^◌, ℕ, pos, SomeIff};
 
-use crate::opening::OpenFolder;
+use crate::opening::{OpenFolder, own_path, remove_file};
 use crate::rest_bytes::{put_folder, put_numbers, replica_bytes, rest_bytes, seen_in, was_seen};
-use mr_folder::{DiskTree, FolderPath, Folders};
+use mr_folder::{DiskTree, Folders};
 use mr_maildir::Layout;
 use mr_scan::{FolderTable, MailFolder};
 use sha2::{Digest, Sha256};
 use std::alloc::Global;
 use std::fs::{self, File};
-use std::io::ErrorKind;
 use std::os::unix::fs::MetadataExt;
 use std::rt::Files;
 use std::slice;
@@ -77,42 +76,13 @@ pub(crate) fn files_stand<R: Files<File = File> + AllocGlobal + Clone + Drop>(
     })
 }
 
-/// Whether the note has that the folder stood so.
-pub(crate) fn is_noted<R: Files<File = File> + AllocGlobal>(
-    rt: &R,
-    root: &str,
-    stand: &Stand,
-) -> bool {
-    seen_at(rt, root, stand).is_some()
-}
-
 /// What was seen of the folder, if the note has that it stood so.
 pub(crate) fn seen_at<R: Files<File = File> + AllocGlobal>(
     rt: &R,
     root: &str,
-    stand: &Stand,
+    stand: &Option<Stand>,
 ) -> Option<Vec<u8>> {
-    noted(rt, root, NOTE, &stand.bytes)
-}
-
-/// Whether the note has that the folder stood so, with names of this digest in its folders, and with the sizes that the store's files have.
-pub(crate) fn is_noted_whole<R: Files<File = File> + AllocGlobal + Clone + Drop>(
-    rt: &R,
-    root: &str,
-    stand: &Stand,
-    names: &[u8; 32],
-) -> bool {
-    has_noted(rt, root, stand, names).unwrap_or(false)
-}
-
-fn has_noted<R: Files<File = File> + AllocGlobal + Clone + Drop>(
-    rt: &R,
-    root: &str,
-    stand: &Stand,
-    names: &[u8; 32],
-) -> Option<bool> {
-    let seen = seen_at(rt, root, stand)?;
-    has_seen(rt, root, &seen, names)
+    noted(rt, root, NOTE, &stand.as_ref()?.bytes)
 }
 
 /// Whether it was names of this digest that were seen, and the sizes that the store's files have. Where it was other names, no size is looked at.
@@ -136,7 +106,7 @@ pub(crate) fn noted<R: Files<File = File> + AllocGlobal>(
     note: &str,
     stand: &[u8],
 ) -> Option<Vec<u8>> {
-    let path = own_path(rt.alloc(), root, note)?;
+    let path = own_path(rt.alloc(), root, note).ok()?;
     let bytes = fs::read(rt, path.as_str()).ok()?;
     Vec::from_slice(rt.alloc(), seen_in(&bytes, stand)?).ok()
 }
@@ -146,7 +116,7 @@ fn sizes_now<R: Files<File = File> + AllocGlobal + Clone + Drop>(
     rt: &R,
     root: &str,
 ) -> Option<Vec<(u64, u64)>> {
-    let path = own_path(rt.alloc(), root, "files")?;
+    let path = own_path(rt.alloc(), root, "files").ok()?;
     let mut sizes = Vec::new(rt.alloc());
     for entry in fs::read_dir(rt, path.as_str()).ok()? {
         let told = entry.ok()?.metadata().ok()?;
@@ -182,20 +152,11 @@ fn take_names(hasher: &mut Sha256, names: &[String]) {
 
 /// Takes the notes back, and tells the time, as the file system has it: what is changed from now on has that time or a later one.
 pub(crate) fn empty_notes<R: Files<File = File> + AllocGlobal>(rt: &R, root: &str) -> Option<u64> {
-    remove_note(rt, root, CLOSED_NOTE)?;
-    let path = own_path(rt.alloc(), root, NOTE)?;
+    let closed = own_path(rt.alloc(), root, CLOSED_NOTE).ok()?;
+    remove_file(rt, closed.as_str()).ok()?;
+    let path = own_path(rt.alloc(), root, NOTE).ok()?;
     fs::write(rt, path.as_str(), "\n").ok()?;
     changed(rt, root, NOTE)
-}
-
-/// Removes a note, if it is there.
-fn remove_note<R: Files + AllocGlobal>(rt: &R, root: &str, note: &str) -> Option<()> {
-    let path = own_path(rt.alloc(), root, note)?;
-    match fs::remove_file(rt, path.as_str()) {
-        Ok(()) => Some(()),
-        Err(said) if said.kind() == ErrorKind::NotFound => Some(()),
-        Err(_) => None,
-    }
 }
 
 /// Notes how the folder stands, if it stood so before this time too, and what was seen in it. A note that can't be written is missing.
@@ -222,7 +183,7 @@ pub(crate) fn write_note<R: Files<File = File> + AllocGlobal>(
     stand: &[u8],
     seen: &[u8],
 ) -> Option<()> {
-    let path = own_path(rt.alloc(), root, note)?;
+    let path = own_path(rt.alloc(), root, note).ok()?;
     let bytes = rest_bytes(rt.alloc(), stand, seen).ok()?;
     fs::write(rt, path.as_str(), bytes.as_slice()).ok()
 }
@@ -233,7 +194,7 @@ fn put_own<R: Files<File = File> + AllocGlobal>(
     root: &str,
     out: &mut Vec<u8>,
 ) -> Option<u64> {
-    let path = own_path(rt.alloc(), root, "log")?;
+    let path = own_path(rt.alloc(), root, "log").ok()?;
     let told = fs::metadata(rt, path.as_str()).ok()?;
     let log = nanoseconds(told.ctime(), told.ctime_nsec())?;
     let store = changed(rt, root, "files")?;
@@ -241,7 +202,8 @@ fn put_own<R: Files<File = File> + AllocGlobal>(
     Some(store)
 }
 
-/// Writes the folders with the times of their last changes, of which the latest is told.
+/// Writes the folders with the times of the last changes of their parts, of which the latest is told. A folder has a `cur`; where it has no
+/// `new`, its time is 0.
 fn put_folders<R: Files<File = File> + AllocGlobal + Clone + Drop>(
     tree: &DiskTree<R>,
     folders: &[MailFolder],
@@ -249,38 +211,23 @@ fn put_folders<R: Files<File = File> + AllocGlobal + Clone + Drop>(
 ) -> Option<u64> {
     let mut newest = 0;
     for folder in folders {
-        newest = put_times(tree, &folder.path, out)?.max(newest);
+        let mut parts = tree.parts(slice::from_ref(&folder.path));
+        let cur = parts.time(0).ok()?;
+        let new = parts.time(1).ok()?;
+        if cur == 0 {
+            return None;
+        }
+        put_folder(out, folder.path.as_str(), cur, new).ok()?;
+        newest = cur.max(new).max(newest);
     }
     Some(newest)
 }
 
-/// Writes a folder with the times of the last changes of its parts, of which the later is told. A folder has a `cur`; where it has no
-/// `new`, its time is 0.
-fn put_times<R: Files<File = File> + AllocGlobal + Clone + Drop>(
-    tree: &DiskTree<R>,
-    path: &FolderPath,
-    out: &mut Vec<u8>,
-) -> Option<u64> {
-    let mut parts = tree.parts(slice::from_ref(path));
-    let cur = parts.time(0).ok()?;
-    let new = parts.time(1).ok()?;
-    if cur == 0 {
-        return None;
-    }
-    put_folder(out, path.as_str(), cur, new).ok()?;
-    Some(cur.max(new))
-}
-
 /// When one of the program's own files or folders changed last.
 fn changed<R: Files<File = File> + AllocGlobal>(rt: &R, root: &str, inside: &str) -> Option<u64> {
-    let path = own_path(rt.alloc(), root, inside)?;
+    let path = own_path(rt.alloc(), root, inside).ok()?;
     let told = fs::metadata(rt, path.as_str()).ok()?;
     nanoseconds(told.ctime(), told.ctime_nsec())
-}
-
-/// The path of one of them.
-fn own_path(alloc: Global, root: &str, inside: &str) -> Option<String> {
-    format!(in alloc; "{root}/.mailfold/{inside}").ok()
 }
 
 /// A time of so many seconds and nanoseconds since 1970, in nanoseconds. `None` for one before, or more than five centuries later.

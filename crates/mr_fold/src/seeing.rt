@@ -1,5 +1,4 @@
 //! What scans of a folder show, and what is done for it. What real files take and give no contract says, so what is here is tested only.
-ghost use Rattle.std.specs.Prelude.{◌≡◌};
 
 use crate::deciding::{Decided, decide};
 use crate::first_look::{FirstLook, first_look};
@@ -8,17 +7,18 @@ use crate::held_side::{HeldSide, LeftSide, held_items};
 use crate::lacking::{missing_mails, remove_stored};
 use crate::looking::said;
 use crate::parting::{created_files, moved_first};
-use crate::sides::{first_sides, take_away};
+use crate::sides::{sides_of, take_away};
 use crate::straying::stray_mails;
 use mr_compare::{Digest, HeldMail, MailAct, Sides, acts_of, most_deletions, tally_of};
 use mr_folder::DiskTree;
 use mr_itemset::SparingKnowledge;
 use mr_maildir::MailFile;
 use mr_replica::Replica;
-use mr_scan::{FolderTable, Index, Indexed, Scan, Sizes, index_of, mails_passed_over, scan};
+use mr_scan::{FolderTable, Index, Indexed, Scan, index_of, mails_passed_over, scan};
 use std::alloc::{AllocError, Global};
 use std::collections::{BTreeMap, BTreeSet};
 use std::fs::File;
+use std::mem;
 use std::rt::Files;
 
 /// What was seen, and what is done for it.
@@ -79,7 +79,7 @@ fn seen_once<R: Files<File = File> + AllocGlobal + Clone + Drop>(
     mails: &[HeldMail],
 ) -> Result<SeenOnce, FoldFault> {
     let LeftSide { mails: left, sizes } = left;
-    let indexed = indexed(alloc, tree, &sizes)?;
+    let indexed = said(index_of(alloc, tree, &sizes), tree)?;
     drop(sizes);
     let Indexed { mut index, edited } = indexed;
     let (scan, lacking) = scan_and_lacking(alloc, tree, table, &mut index, mails)?;
@@ -101,7 +101,7 @@ fn scan_and_lacking<R: Files<File = File> + AllocGlobal + Clone + Drop>(
     mails: &[HeldMail],
 ) -> Result<(Scan, BTreeSet<Digest>), FoldFault> {
     let mut lacking = missing_mails(alloc, mails, index)?;
-    let scan = scanned(alloc, tree, table, index)?;
+    let scan = said(scan(alloc, tree, table, index), tree)?;
     remove_stored(&mut lacking, index);
     Ok((scan, lacking))
 }
@@ -120,26 +120,6 @@ fn sight_once(alloc: Global, once: SeenOnce) -> Result<Sight, AllocError> {
     sight_of(alloc, sides, scan, acts, edited, sizes)
 }
 
-/// What is known where a second scan has to say it too.
-#[derive(Drop)]
-struct Halfway {
-    index: Index,
-    /// The mails that were edited in place.
-    edited: Vec<Digest>,
-    /// What the first scan says.
-    sides: Sides,
-    /// It, without the files that it saw.
-    first: Scan,
-    held: HeldSide,
-}
-
-/// What was seen at the second scan, and what both say.
-#[derive(Drop)]
-struct SeenTwice {
-    scan: Scan,
-    decided: Decided,
-}
-
 /// Scans the folders once more, and finds what is done for what both scans say.
 fn seen_twice<R: Files<File = File> + AllocGlobal + Clone + Drop>(
     alloc: Global,
@@ -151,43 +131,34 @@ fn seen_twice<R: Files<File = File> + AllocGlobal + Clone + Drop>(
     most: Option<usize>,
 ) -> Result<Sight, FoldFault> {
     let sizes = sizes_of(alloc, &once.index, &once.scan)?;
-    let Halfway {
-        mut index,
-        edited,
-        sides,
-        first,
-        held,
-    } = found_so_far(alloc, replica, once, mails)?;
-    let twice = scanned_again(alloc, tree, table, &mut index, sides, held, &first, most)?;
-    drop(index);
-    let SeenTwice { scan, decided } = twice;
-    let Decided { sides, acts, .. } = decided;
-    Ok(sight_of(alloc, sides, scan, acts, edited, sizes)?)
-}
-
-/// What the first scan says of all mails, and the items that are held of them. The files that it saw are let go before these are in memory.
-fn found_so_far(
-    alloc: Global,
-    replica: &Replica<SparingKnowledge>,
-    once: SeenOnce,
-    mails: Vec<HeldMail>,
-) -> Result<Halfway, AllocError> {
     let SeenOnce {
-        index,
+        mut index,
         edited,
         scan,
         look,
     } = once;
-    let sides = sides_once(alloc, look, &mails, &scan, &index)?;
-    let first = without_mails(alloc, scan);
+    let (sides, first, held) = found_so_far(alloc, replica, &index, scan, look, mails)?;
+    let twice = scanned_again(alloc, tree, table, &mut index, sides, held, &first, most)?;
+    drop(index);
+    let (scan, decided) = twice;
+    let Decided { sides, acts, .. } = decided;
+    Ok(sight_of(alloc, sides, scan, acts, edited, sizes)?)
+}
+
+/// What the first scan says of all mails, that scan, and what is held. The files that it saw are let go before the items are in memory.
+fn found_so_far(
+    alloc: Global,
+    replica: &Replica<SparingKnowledge>,
+    index: &Index,
+    scan: Scan,
+    look: FirstLook,
+    mails: Vec<HeldMail>,
+) -> Result<(Sides, Scan, HeldSide), AllocError> {
+    let sides = sides_once(alloc, look, &mails, &scan, index)?;
+    let mut first = scan;
+    first.mails.clear();
     let items = held_items(alloc, replica)?;
-    Ok(Halfway {
-        index,
-        edited,
-        sides,
-        first,
-        held: HeldSide { items, mails },
-    })
+    Ok((sides, first, HeldSide { items, mails }))
 }
 
 /// Scans the folders once more, of which the first scan says this, and finds what is done for what both scans say.
@@ -200,11 +171,11 @@ fn scanned_again<R: Files<File = File> + AllocGlobal + Clone + Drop>(
     held: HeldSide,
     first: &Scan,
     most: Option<usize>,
-) -> Result<SeenTwice, FoldFault> {
-    let scan = scanned(alloc, tree, table, index)?;
+) -> Result<(Scan, Decided), FoldFault> {
+    let scan = said(scan(alloc, tree, table, index), tree)?;
     let decided = decide(alloc, sides, &held, first, &scan, index)?;
     check_allowed(alloc, tree, table, index, &held, &decided, most)?;
-    Ok(SeenTwice { scan, decided })
+    Ok((scan, decided))
 }
 
 /// What the first scan says of all mails.
@@ -217,25 +188,7 @@ fn sides_once(
 ) -> Result<Sides, AllocError> {
     let FirstLook { sides, .. } = look;
     let Sides { left, .. } = sides;
-    first_sides(alloc, left, mails, scan, index)
-}
-
-/// The scan without the files that it saw.
-fn without_mails(alloc: Global, scan: Scan) -> Scan
-    ensures { result.is_quiet ≡ scan.is_quiet }
-{
-    let Scan {
-        is_quiet,
-        unreadable,
-        adopted,
-        ..
-    } = scan;
-    Scan {
-        mails: BTreeMap::new(alloc),
-        is_quiet,
-        unreadable,
-        adopted,
-    }
+    sides_of(alloc, left, None, true, mails, scan, index)
 }
 
 /// The inodes of the store's files, and their sizes, as they were before the scan, if each file of the folders is one of these: then it added none.
@@ -292,19 +245,9 @@ fn files_for(
     if moved != 0 {
         return Ok((scan, BTreeMap::new(alloc)));
     }
-    let Scan {
-        mails,
-        is_quiet,
-        unreadable,
-        adopted,
-    } = scan;
+    let mut scan = scan;
+    let mails = mem::replace(&mut scan.mails, BTreeMap::new(alloc));
     let created = created_files(alloc, mails, acts)?;
-    let scan = Scan {
-        mails: BTreeMap::new(alloc),
-        is_quiet,
-        unreadable,
-        adopted,
-    };
     Ok((scan, created))
 }
 
@@ -321,52 +264,15 @@ fn check_allowed<R: Files<File = File> + AllocGlobal + Clone + Drop>(
     if tally_of(&decided.acts).deleted == 0 {
         return Ok(());
     }
-    refuse_strays(alloc, tree, table, index, &decided.acts)?;
+    let places = said(mails_passed_over(alloc, tree, table, index), tree)?;
+    let acts = &decided.acts;
+    let strays = stray_mails(alloc, table.layout(), table.passed_over(), acts, &places)?;
+    drop(places);
+    if let Some(mails) = strays {
+        return Err(FoldFault::PassedOver(mails));
+    }
     let most = most.unwrap_or(most_deletions(held.mails.len()));
     // where they aren't too many, these are the same acts again
     acts_of(alloc, &held.mails, &decided.others, &decided.sides, most)?;
     Ok(())
-}
-
-/// Refuses acts that would delete a mail whose file lies in a folder that is passed over.
-fn refuse_strays<R: Files<File = File> + AllocGlobal + Clone + Drop>(
-    alloc: Global,
-    tree: &mut DiskTree<R>,
-    table: &FolderTable,
-    index: &Index,
-    acts: &[MailAct],
-) -> Result<(), FoldFault> {
-    let places = match mails_passed_over(alloc, tree, table, index) {
-        Ok(places) => places,
-        Err(fault) => return Err(said(tree, fault)),
-    };
-    match stray_mails(alloc, table.layout(), table.passed_over(), acts, &places)? {
-        Some(mails) => Err(FoldFault::PassedOver(mails)),
-        None => Ok(()),
-    }
-}
-
-/// The store's mails, and those that were edited in place.
-fn indexed<R: Files<File = File> + AllocGlobal + Clone + Drop>(
-    alloc: Global,
-    tree: &mut DiskTree<R>,
-    sizes: &Sizes,
-) -> Result<Indexed, FoldFault> {
-    match index_of(alloc, tree, sizes) {
-        Ok(indexed) => Ok(indexed),
-        Err(fault) => Err(said(tree, fault)),
-    }
-}
-
-/// Scans the folders.
-fn scanned<R: Files<File = File> + AllocGlobal + Clone + Drop>(
-    alloc: Global,
-    tree: &mut DiskTree<R>,
-    table: &FolderTable,
-    index: &mut Index,
-) -> Result<Scan, FoldFault> {
-    match scan(alloc, tree, table, index) {
-        Ok(found) => Ok(found),
-        Err(fault) => Err(said(tree, fault)),
-    }
 }

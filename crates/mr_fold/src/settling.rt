@@ -5,7 +5,7 @@ ghost use Rattle.mr_kept.specs.Kept.{IsKept, Noted, entries_waiting, journal_of,
 ghost use Rattle.mr_compare.specs.declared.compare.MailAct.{MailAct};
 ghost use Rattle.mr_fold.specs.Settling.{AddsAtOnce, AddsInParts, AddsInTurn, Leaves, Settles, Stay, TellsFirst};
 ghost use Rattle.mr_fold.specs.Shown.{shown_note};
-ghost use Rattle.mr_fold.specs.inner.Settling.{AddsToldFirst, AddsWaiting};
+ghost use Rattle.mr_fold.specs.inner.Settling.{AddsWaiting};
 
 use crate::fault::SettleFault;
 use crate::shown::note_shown;
@@ -140,7 +140,8 @@ fn settle_moved<D: Device + Drop, F: MailFiles>(
 ) -> Result<(), SettleFault>
     requires { length lacking.now < 2 ^ 32 }
     ensures settles { OnOk result (Settles D.Device F.are_synced held.now.entries moved.now lacking.now kept.old kept.new files.new) }
-    ensures moments { Leaves D.Device kept.old kept.new (AddsToldFirst held.now.entries lacking.now moved.now) }
+    // Whichever others are settled behind them.
+    ensures moments { (others : List MailAct) → Leaves D.Device kept.old kept.new (AddsInTurn held.now.entries lacking.now moved.now others) }
     ensures shown { OnOk result (All (F.is_shown files.new) moved.now) }
     ensures told_first { TellsFirst D.Device F.are_synced held.now.entries moved.now kept.old kept.new files.old files.new }
 {

@@ -1,5 +1,5 @@
-//! What two listings say of the mails, beside what is held of them.
-ghost use Rattle.std.specs.Prelude.{◌≡◌, ◌&&◌, All, false, IfOk, Some, option_map};
+//! What listings say of the mails, beside what is held of them.
+ghost use Rattle.std.specs.Prelude.{◌≡◌, All, false, IfOk, option_map};
 ghost use Rattle.std.specs.BTreeMap.{IsFromIterResult, values};
 ghost use Rattle.std.specs.List.{list_all};
 ghost use Rattle.std.specs.Option.{option_copied};
@@ -19,53 +19,27 @@ use mr_scan::{Index, Scan, seen_view};
 use std::alloc::{AllocError, Global};
 use std::collections::BTreeMap;
 
-/// What one scan says, as if no folder had changed meanwhile.
-pub(crate) fn first_sides(
+/// What a scan says, behind one by which the mails were seen so, if there was one.
+pub(crate) fn sides_of(
     alloc: Global,
     left: BTreeMap<Digest, LeftMail>,
+    seen_before: Option<BTreeMap<Digest, View>>,
+    are_quiet: bool,
     mails: &[HeldMail],
     scan: &Scan,
     index: &Index,
 ) -> Result<Sides, AllocError>
-    ensures { IfOk result (Says (values index.now) mails.now left scan.now) }
+    ensures says { IfOk result (Says (values index.now) mails.now left scan.now) }
+    ensures before { IfOk result (λ sides. sides.seen_before ≡ seen_before) }
+    ensures quiet { IfOk result (λ sides. sides.are_quiet ≡ are_quiet) }
 {
     let lacking = missing_mails(alloc, mails, index)?;
     let seen = seen_views(alloc, scan, &left, mails)?;
     Ok(Sides {
         left,
         seen,
-        seen_before: None,
-        are_quiet: true,
-        lacking,
-    })
-}
-
-/// What two scans say.
-pub(crate) fn second_sides(
-    alloc: Global,
-    sides: Sides,
-    mails: &[HeldMail],
-    first: &Scan,
-    second: &Scan,
-    index: &Index,
-) -> Result<Sides, AllocError>
-    ensures says { IfOk result (Says (values index.now) mails.now sides.left second.now) }
-    // What is seen is compared with what was seen first.
-    ensures before { IfOk result (λ two. two.seen_before ≡ Some sides.seen) }
-    ensures quiet { IfOk result (λ two. two.are_quiet ≡ (first.now.is_quiet && second.now.is_quiet)) }
-{
-    let Sides {
-        left,
-        seen: before,
-        ..
-    } = sides;
-    let lacking = missing_mails(alloc, mails, index)?;
-    let seen = seen_views(alloc, second, &left, mails)?;
-    Ok(Sides {
-        left,
-        seen,
-        seen_before: Some(before),
-        are_quiet: first.is_quiet && second.is_quiet,
+        seen_before,
+        are_quiet,
         lacking,
     })
 }
@@ -86,7 +60,6 @@ fn seen_views(
         rest = from_digest(rest, digest);
         let view = seen_view(alloc, left_view(digest, left, rest.first()), files)?;
         views.push((*digest, view))?;
-        rest = behind_digest(rest, digest);
     }
     by_digest(alloc, views)
 }
@@ -146,31 +119,11 @@ fn view_of<'a>(digest: &Digest, held: &'a HeldMail) -> Option<&'a View>
 
 /// The mails from this digest on, of mails in rising order of their digests.
 fn from_digest<'a>(mails: &'a [HeldMail], digest: &Digest) -> &'a [HeldMail] {
-    match mails.first() {
-        Some(first) if first.digest < *digest => behind(mails, place_of(mails, digest)),
-        _ => mails,
-    }
-}
-
-/// The place of the first mail that isn't before this digest.
-fn place_of(mails: &[HeldMail], digest: &Digest) -> usize {
-    match mails.binary_search_by(|mail| mail.digest.cmp(digest)) {
-        Ok(place) => place,
-        Err(place) => place,
-    }
-}
-
-/// The mails without the first one, if that has this digest.
-fn behind_digest<'a>(mails: &'a [HeldMail], digest: &Digest) -> &'a [HeldMail] {
-    match mails.first() {
-        Some(first) if first.digest == *digest => behind(mails, 1),
-        _ => mails,
-    }
-}
-
-/// The mails behind the first so many.
-fn behind(mails: &[HeldMail], count: usize) -> &[HeldMail] {
-    let (_, rest) = mails.split_at(count.min(mails.len()));
+    let before = mails
+        .iter()
+        .take_while(|mail| mail.digest < *digest)
+        .count();
+    let (_, rest) = mails.split_at(before.min(mails.len()));
     rest
 }
 
@@ -193,10 +146,7 @@ fn takes_away(act: &Act, held: Option<&View>) -> bool
     match act {
         Act::Edit(view) => leaves_a_folder(view, held),
         Act::Delete => true,
-        Act::Agree => false,
-        Act::Create => false,
-        Act::Follow => false,
-        Act::Remove => false,
+        Act::Agree | Act::Create | Act::Follow | Act::Remove => false,
     }
 }
 

@@ -1,5 +1,5 @@
 //! What the notes of a folder's journal tell.
-ghost use Rattle.std.specs.Prelude.{◌≡◌, ◌==◌, if◌then◌else◌, ℕ, Some, IfOk, OnOk};
+ghost use Rattle.std.specs.Prelude.{◌≡◌, ℕ, IfOk, OnOk};
 ghost use Rattle.mr_fold.specs.State.{shown_by, shown_with, met_by, met_with, meeting_at};
 
 use mr_compare::{FolderNote, Meeting, Shown, read_note};
@@ -46,15 +46,10 @@ fn meet(meetings: &mut BTreeMap<u16, Meeting>, read: &Option<FolderNote>) -> Res
     ensures { OnOk result ((id : ℕ) → meeting_at meetings.new.entries id ≡ met_with (meeting_at meetings.old.entries id) read.now id) }
 {
     match read {
-        Some(FolderNote::Met(meeting)) => put(meetings, *meeting),
+        Some(FolderNote::Met(meeting)) => {
+            meetings.insert(meeting.id.id(), *meeting)?;
+            Ok(())
+        }
         _ => Ok(()),
     }
-}
-
-/// Notes a meeting.
-fn put(meetings: &mut BTreeMap<u16, Meeting>, meeting: Meeting) -> Result<(), AllocError>
-    ensures { OnOk result ((id : ℕ) → meeting_at meetings.new.entries id ≡ (if meeting.id == id then Some meeting else meeting_at meetings.old.entries id)) }
-{
-    meetings.insert(meeting.id.id(), meeting)?;
-    Ok(())
 }

@@ -1,13 +1,9 @@
 //! Mails that would be told as deleted, though their files lie in folders that are passed over.
 ghost use Rattle.std.specs.Prelude.{◌≡◌, ◌++◌, IfOk, IfSome, OnOk, option_map, string_bytes};
 ghost use Rattle.std.specs.List.{filter_map};
-ghost use Rattle.std.specs.Map.{lookup};
 ghost use Rattle.std.specs.Option.{option_copied, option_to_list};
-ghost use Rattle.std.specs.Ordering.{is_eq};
-ghost use Rattle.mr_mail.specs.Label.{text_cmp};
 ghost use Rattle.mr_fold.specs.inner.Straying.{IsExplained, IsWhy, other_layout, path_instead, place_of, first_place, strays, stray_parts, lying_at};
 ghost use Rattle.mr_fold.specs.Straying as specs;
-ghost use Rattle.mr_fold.specs.inner.Straying as inner;
 
 use mr_compare::{Digest, MailAct};
 use mr_folder::FolderPath;
@@ -153,22 +149,8 @@ fn place_of(mail: &MailAct, table: &BTreeMap<Digest, usize>) -> Option<usize>
     ensures { result ≡ place_of table.now.entries mail.now }
 {
     match &mail.act {
-        Act::Delete => place_in(table, mail.digest),
-        Act::Edit(_) => None,
-        Act::Agree => None,
-        Act::Create => None,
-        Act::Follow => None,
-        Act::Remove => None,
-    }
-}
-
-/// Where the table has a mail lie.
-fn place_in(table: &BTreeMap<Digest, usize>, digest: Digest) -> Option<usize>
-    ensures { result ≡ lookup (λ own. is_eq (text_cmp digest own)) table.now.entries }
-{
-    match table.get(&digest) {
-        Some(place) => Some(*place),
-        None => None,
+        Act::Delete => table.get(&mail.digest).copied(),
+        Act::Edit(_) | Act::Agree | Act::Create | Act::Follow | Act::Remove => None,
     }
 }
 
@@ -200,17 +182,12 @@ fn path_instead(alloc: Global, layout: Layout, path: &str) -> Result<Option<Stri
     ensures { IfOk result (λ instead. option_map string_bytes instead ≡ path_instead layout path.now) }
 {
     match other_layout(layout).folder_at(alloc, path)? {
-        Some(name) => Ok(Some(path_of(alloc, layout, name.as_str())?)),
+        Some(name) => {
+            let label = folder_label(alloc, name.as_str())?;
+            Ok(Some(layout.folder_path(alloc, &label, Some(name.as_str()))?))
+        }
         None => Ok(None),
     }
-}
-
-/// Where the layout has the folder of this name.
-fn path_of(alloc: Global, layout: Layout, name: &str) -> Result<String, AllocError>
-    ensures { IfOk result (λ path. string_bytes path ≡ inner.path_of layout name.now) }
-{
-    let label = folder_label(alloc, name)?;
-    layout.folder_path(alloc, &label, Some(name))
 }
 
 /// The layout that this one isn't.

@@ -39,10 +39,7 @@ fn view_after(alloc: Global, act: &Act, held: &HeldMail) -> Result<Option<View>,
     match act {
         Act::Edit(view) => Ok(Some(view.copy(alloc)?)),
         Act::Follow => Ok(Some(held.view.copy(alloc)?)),
-        Act::Agree => Ok(None),
-        Act::Create => Ok(None),
-        Act::Delete => Ok(None),
-        Act::Remove => Ok(None),
+        Act::Agree | Act::Create | Act::Delete | Act::Remove => Ok(None),
     }
 }
 

@@ -66,26 +66,11 @@ fn tell_act<D: Device + Drop, F: MailFiles>(
     match act {
         Act::Create => tell_new(alloc, kept, files, digest),
         Act::Edit(view) => tell_edits(alloc, kept, digest, items, view),
-        Act::Delete => tell_gone(alloc, kept, digest, items),
+        Act::Delete => tell_edits(alloc, kept, digest, items, &gone(alloc)),
         Act::Agree => Ok(()),
         Act::Follow => Ok(()),
         Act::Remove => Ok(()),
     }
-}
-
-/// Tells of each item that a mail is that it is deleted.
-fn tell_gone<D: Device + Drop>(
-    alloc: Global,
-    kept: &mut Journaled<SparingKnowledge, D>,
-    digest: &Digest,
-    items: &[ItemHeads],
-) -> Result<(), SettleFault>
-    ensures told { OnOk result (Grows (TellsEdits gone_view items.now) (replica_of kept.old) (replica_of kept.new)) }
-    ensures journal { SameJournal kept.old kept.new }
-{
-    let view = gone(alloc);
-    tell_edits(alloc, kept, digest, items, &view)?;
-    Ok(())
 }
 
 /// Tells a new mail.

@@ -1,16 +1,13 @@
 -- the mails that aren't held, and which acts delete one
-use Rattle.std.specs.Prelude.{◌≡◌, ◌++◌, ℕ, IsTrue, List, map}
+use Rattle.std.specs.Prelude.{ℕ, IsTrue, List}
 use Rattle.std.specs.Global.{Vec}
 use Rattle.std.specs.List.Sorted.{IsPermutation, IsSorted}
 use Rattle.mr_mail.specs.Label.{text_cmp}
 use Rattle.mr_scan.specs.declared.inodes.Stored.{Stored}
 use Rattle.mr_compare.specs.MailsLeft.{unheld}
-use Rattle.mr_compare.specs.Sides.{standing_of_held, standing_of_unheld}
 use Rattle.mr_compare.specs.Tally.{deletes}
 use Rattle.mr_compare.specs.declared.compare.MailAct.{MailAct}
-use Rattle.mr_compare.specs.declared.compare.Standing.{Standing}
 use Rattle.mr_compare.specs.declared.joining.ItemHeads.{ItemHeads}
-use Rattle.mr_compare.specs.declared.sides.HeldMail.{HeldMail}
 use Rattle.mr_compare.specs.declared.sides.Sides.{Sides}
 use Rattle.mr_fold.specs.inner.Lacking.{is_stored}
 

@@ -19,10 +19,6 @@ use Rattle.mr_fold.specs.Lacking.{has_digest}
 abbrev pub is_stored : List Stored → List ℕ → Bool
 is_stored mails digest = list_any (λ (stored : Stored). is_eq (text_cmp stored.digest digest)) mails
 
--- one of the held mails is that of the digest, isn't gone, and the store has no file of it
-abbrev pub is_lacking : (stored : List (List ℕ)) → List HeldMail → List ℕ → Bool
-is_lacking stored mails digest = list_any (λ (mail : HeldMail). not (has_digest stored mail.digest || is_gone mail.view) && is_eq (text_cmp mail.digest digest)) mails
-
 -- one of the held mails is that of the digest, isn't gone, and is none of the store's mails
 abbrev pub is_missing : List Stored → List HeldMail → List ℕ → Bool
 is_missing stored mails digest = list_any (λ (mail : HeldMail). not (is_stored stored mail.digest || is_gone mail.view) && is_eq (text_cmp mail.digest digest)) mails

@@ -1,7 +1,6 @@
-use Rattle.std.proofs.Common.{◌∙◌}
-use Rattle.std.specs.BTreeMap.{values}
-use Rattle.mr_fold.proofs.LackingLemmas.{missing_is}
+use Rattle.std.proofs.Common.{arith}
+use Rattle.std.proofs.lemmas.Grind.{common_steps}
 use Rattle.mr_fold.proofs.lacking.missing_mails.Goals as goal
 
-pub returns : goal.returns
-returns c = λ digest. c.in_ok-lacking.ensures digest ∙ missing_is c.in_ok-stored.stored.keys (values c.args.index.now) c.args.mails.now c.in_ok-stored.ensures digest
+pub loop-mail-preserved : goal.loop-mail-preserved
+loop-mail-preserved c = λ digest. grind (arith, common_steps, c.loop-mail.invariant digest, c.in_ok-stored.ensures c.mail-item.result.digest)

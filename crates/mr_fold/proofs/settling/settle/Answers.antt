@@ -1,7 +1,7 @@
 use Rattle.std.proofs.Common.{[], inl, refl, sym, ◌∙◌}
 use Rattle.std.proofs.lemmas.List.Elements.{All-nil, All-same}
 use Rattle.std.proofs.lemmas.Result.{on_ok_weaker}
-use Rattle.mr_fold.proofs.MovingLemmas.{begins, begins_at_once, begun_then}
+use Rattle.mr_fold.proofs.MovingLemmas.{begins_at_once, begun_then}
 use Rattle.mr_fold.proofs.SettlingLemmas.{all_stay, none_from, settles_alone, settles_first, settles_then, some_from}
 use Rattle.mr_fold.proofs.settling.settle.Goals as goal
 
@@ -27,8 +27,7 @@ pub returns-in_err-settle_moved-clause-at_once : goal.returns-in_err-settle_move
 returns-in_err-settle_moved-clause-at_once g c = λ none. absurd (some_from c.args.moved.now (sym c.is_empty.ensures ∙ c.if-is_empty.false) none)
 
 pub returns-in_err-settle_moved-clause-moments : goal.returns-in_err-settle_moved-clause-moments
-returns-in_err-settle_moved-clause-moments g c = λ told entries kept.
-    begins c.args.held.now.entries c.args.lacking.now c.args.moved.now c.args.standing.now c.args.kept.now c.settle_moved.new.kept entries (c.settle_moved.ensures.moments told entries kept)
+returns-in_err-settle_moved-clause-moments g c = c.settle_moved.ensures.moments c.args.standing.now
 
 pub returns-in_err-settle_moved-clause-stay : goal.returns-in_err-settle_moved-clause-stay
 returns-in_err-settle_moved-clause-stay g c = λ none. absurd (some_from c.args.moved.now (sym c.is_empty.ensures ∙ c.if-is_empty.false) none)
@@ -41,8 +40,7 @@ pub returns-then-is_empty-2-clause-at_once : goal.returns-then-is_empty-2-clause
 returns-then-is_empty-2-clause-at_once g c = λ none. absurd (some_from c.args.moved.now (sym c.is_empty.ensures ∙ c.if-is_empty.false) none)
 
 pub returns-then-is_empty-2-clause-moments : goal.returns-then-is_empty-2-clause-moments
-returns-then-is_empty-2-clause-moments g c = λ told entries kept.
-    begins c.args.held.now.entries c.args.lacking.now c.args.moved.now c.args.standing.now c.args.kept.now c.settle_moved.new.kept entries (c.settle_moved.ensures.moments told entries kept)
+returns-then-is_empty-2-clause-moments g c = c.settle_moved.ensures.moments c.args.standing.now
 
 pub returns-then-is_empty-2-clause-stay : goal.returns-then-is_empty-2-clause-stay
 returns-then-is_empty-2-clause-stay g c = λ none. absurd (some_from c.args.moved.now (sym c.is_empty.ensures ∙ c.if-is_empty.false) none)
@@ -62,7 +60,7 @@ returns-clause-moments g c =
     let mid = c.settle_moved.new.kept in
     begun_then c.args.moved.now c.args.standing.now [] c.args.standing.now old mid c.settle_standing-2.new.kept c.settle_moved.new.files refl
     (settles_first c.args.moved.now [] old mid c.settle_moved.new.files refl c.in_ok-settle_moved.ensures.settles)
-    (λ told entries kept. begins c.args.held.now.entries c.args.lacking.now c.args.moved.now c.args.standing.now old mid entries (c.settle_moved.ensures.moments told entries kept))
+    (c.settle_moved.ensures.moments c.args.standing.now)
     c.settle_standing-2.ensures.at_once
 
 pub returns-clause-shown : goal.returns-clause-shown

@@ -3,9 +3,8 @@ use Rattle.std.proofs.lemmas.Result.{on_ok_weaker}
 use Rattle.mr_journal.specs.Device.{LeavesOnly}
 use Rattle.mr_journal.specs.Journal.{device_of}
 use Rattle.mr_kept.specs.Kept.{entries_waiting, journal_of, replica_of}
-use Rattle.mr_fold.specs.Settling.{IsToldFirst}
+use Rattle.mr_fold.specs.Settling.{AddsInTurn, IsToldFirst}
 use Rattle.mr_fold.specs.Telling.{Grows, TellsAll}
-use Rattle.mr_fold.specs.inner.Settling.{AddsToldFirst}
 use Rattle.mr_fold.proofs.MovingLemmas.{shows_then, tells_first}
 use Rattle.mr_fold.proofs.SettlingLemmas.{all_stay, kept_noted, kept_told, none_waits, noted_after, settles_if_kept, told_kept, unwritten}
 use Rattle.mr_fold.proofs.settling.settle_moved.Goals as goal
@@ -26,30 +25,30 @@ returns-clause-settles g c =
     (c.commit-2.ensures.kept is _ (kept_noted _ mid c.note.new.kept _ first put)))
 
 pub returns-in_err-tell-clause-moments : goal.returns-in_err-tell-clause-moments
-returns-in_err-tell-clause-moments g c = λ _ entries kept.
-    unwritten entries c.args.kept.now c.tell.new.kept (AddsToldFirst c.args.held.now.entries c.args.lacking.now c.args.moved.now c.args.kept.now c.tell.new.kept entries) (λ f before. inl before) g.met.D.Device.only_now kept
+returns-in_err-tell-clause-moments g c = λ others _ entries kept.
+    unwritten entries c.args.kept.now c.tell.new.kept (AddsInTurn c.args.held.now.entries c.args.lacking.now c.args.moved.now others c.args.kept.now c.tell.new.kept entries) (λ f before. inl before) g.met.D.Device.only_now kept
     c.tell.ensures.journal.journal
 
 pub returns-in_err-commit-clause-moments : goal.returns-in_err-commit-clause-moments
-returns-in_err-commit-clause-moments g c = λ is entries kept.
-    tells_first c.args.held.now.entries c.args.lacking.now entries c.args.moved.now c.args.kept.now c.tell.new.kept c.commit.new.kept c.commit.new.kept c.tell.ensures.journal c.in_ok-tell.ensures.told kept
+returns-in_err-commit-clause-moments g c = λ others is entries kept.
+    tells_first c.args.held.now.entries c.args.lacking.now entries c.args.moved.now others c.args.kept.now c.tell.new.kept c.commit.new.kept c.commit.new.kept c.tell.ensures.journal c.in_ok-tell.ensures.told kept
     (c.commit.ensures.any_moment is entries)
 
 pub returns-in_err-show-clause-moments : goal.returns-in_err-show-clause-moments
-returns-in_err-show-clause-moments g c = λ is entries kept.
-    tells_first c.args.held.now.entries c.args.lacking.now entries c.args.moved.now c.args.kept.now c.tell.new.kept c.commit.new.kept c.commit.new.kept c.tell.ensures.journal c.in_ok-tell.ensures.told kept
+returns-in_err-show-clause-moments g c = λ others is entries kept.
+    tells_first c.args.held.now.entries c.args.lacking.now entries c.args.moved.now others c.args.kept.now c.tell.new.kept c.commit.new.kept c.commit.new.kept c.tell.ensures.journal c.in_ok-tell.ensures.told kept
     (c.commit.ensures.any_moment is entries)
 
 pub returns-in_err-note-clause-moments : goal.returns-in_err-note-clause-moments
-returns-in_err-note-clause-moments g c = λ is entries kept.
+returns-in_err-note-clause-moments g c = λ others is entries kept.
     let old = c.args.kept.now in
     let noted = c.note.new.kept in
-    subst (λ j. LeavesOnly g.D.Device.moment g.D.Device.left_since (device_of (journal_of old)) (device_of j) (AddsToldFirst c.args.held.now.entries c.args.lacking.now c.args.moved.now old noted entries)) (sym c.note.ensures.journal)
-    (tells_first c.args.held.now.entries c.args.lacking.now entries c.args.moved.now old c.tell.new.kept c.commit.new.kept noted c.tell.ensures.journal c.in_ok-tell.ensures.told kept (c.commit.ensures.any_moment is entries))
+    subst (λ j. LeavesOnly g.D.Device.moment g.D.Device.left_since (device_of (journal_of old)) (device_of j) (AddsInTurn c.args.held.now.entries c.args.lacking.now c.args.moved.now others old noted entries)) (sym c.note.ensures.journal)
+    (tells_first c.args.held.now.entries c.args.lacking.now entries c.args.moved.now others old c.tell.new.kept c.commit.new.kept noted c.tell.ensures.journal c.in_ok-tell.ensures.told kept (c.commit.ensures.any_moment is entries))
 
 pub returns-clause-moments : goal.returns-clause-moments
-returns-clause-moments g c = λ is entries kept.
-    shows_then c.args.held.now.entries c.args.lacking.now entries c.args.moved.now c.args.kept.now c.tell.new.kept c.commit.new.kept c.note.new.kept c.commit-2.new.kept c.tell.ensures.journal c.in_ok-tell.ensures.told kept
+returns-clause-moments g c = λ others is entries kept.
+    shows_then c.args.held.now.entries c.args.lacking.now entries c.args.moved.now others c.args.kept.now c.tell.new.kept c.commit.new.kept c.note.new.kept c.commit-2.new.kept c.tell.ensures.journal c.in_ok-tell.ensures.told kept
     (c.commit.ensures.any_moment is entries) (c.in_ok-commit.ensures.kept is entries) c.in_ok-commit.ensures.all_kept c.in_ok-note.ensures.noted c.commit-2.ensures.replica
     (c.commit-2.ensures.any_moment is (entries ++ entries_waiting c.tell.new.kept))
 

@@ -2,7 +2,7 @@ use Rattle.std.proofs.Common.{refl, sym, subst}
 use Rattle.std.specs.Prelude.{OnOk}
 use Rattle.mr_kept.specs.Kept.{replica_of}
 use Rattle.mr_maildir.specs.declared.act.Act.TheVariants as act
-use Rattle.mr_fold.specs.Telling.{TellsAct, Grows}
+use Rattle.mr_fold.specs.Telling.{TellsAct, TellsEdits, Grows}
 use Rattle.mr_fold.proofs.SettlingLemmas.{stay_still}
 use Rattle.mr_fold.proofs.TellingLemmas.{grows_not}
 use Rattle.mr_fold.proofs.telling.tell_act.Goals as goal
@@ -17,7 +17,9 @@ returns-in-Edit-clause-told g c =
 
 pub returns-in-Delete-clause-told : goal.returns-in-Delete-clause-told
 returns-in-Delete-clause-told g c =
-    subst (λ a. OnOk c.tell_gone.result (Grows (TellsAct c.args.items.now a) (replica_of c.args.kept.now) (replica_of c.tell_gone.new.kept))) (sym c.in-Delete.is) c.tell_gone.ensures.told
+    let told = c.tell_edits-in-Delete-2 in
+    subst (λ a. OnOk told.result (Grows (TellsAct c.args.items.now a) (replica_of c.args.kept.now) (replica_of told.new.kept))) (sym c.in-Delete.is)
+    (subst (λ v. OnOk told.result (Grows (TellsEdits v c.args.items.now) (replica_of c.args.kept.now) (replica_of told.new.kept))) c.gone.ensures told.ensures.told)
 
 pub returns-in-Agree-clause-told : goal.returns-in-Agree-clause-told
 returns-in-Agree-clause-told g c = subst (λ a. Grows (TellsAct c.args.items.now a) (replica_of c.args.kept.now) (replica_of c.args.kept.now)) (sym c.in-Agree.is) (grows_not (TellsAct c.args.items.now act.Agree) (replica_of c.args.kept.now) (refl, refl))

@@ -1,5 +1,5 @@
 use Rattle.std.proofs.Common.{◌≡◌, ◌++◌}
-use Rattle.mr_fold.proofs.expiring.listed.Given as goal
+use Rattle.mr_fold.proofs.expiring.sorted.Given as goal
 
 -- the digests so far and those that are left are all
 abbrev pub invariant-loop-digest : goal.invariant-loop-digest
