@@ -1,13 +1,8 @@
 -- bytes that are no frame at all are none of those that a call takes
 use Rattle.std.proofs.Common.{◌≡◌, ℕ, Bool, true, false, nat_lt, List, length, Option, Some, Result, Ok, Err}
-use Rattle.std.specs.Prelude.{if◌then◌else◌}
-use Rattle.mr_wire.specs.Decoding.{decoded}
-use Rattle.mr_wire.specs.declared.fault.WireFault.{WireFault}
-use Rattle.mr_wire.specs.declared.frame.Frame.{Frame}
-use Rattle.mr_desk.specs.Fault.{Reads, of_wire}
-use Rattle.mr_desk.specs.Frames.{any_frame, frame_fault, BeginsFrame}
-use Rattle.mr_desk.specs.declared.fault.Fault.{Fault}
-use Rattle.mr_desk.specs.declared.fault.Fault.TheVariants.{OutOfMemory, NotText, BytesBehind, OtherFrame, Unsettled, Failed, OtherDevice, TooLarge, BadLength, NoConflict, Version, Message, Filter, Wire, Event, Replay, Refused, Open, Merge, Peer}
+use Rattle.mr_desk.proofs.Names.{BadLength, BeginsFrame, BytesBehind, Event, Failed, Fault, Filter, Frame, Merge, Message, NoConflict, NotText, Open}
+use Rattle.mr_desk.proofs.Names.{OtherDevice, OtherFrame, OutOfMemory, Peer, Reads, Refused, Replay, TooLarge, Unsettled, Version, Wire, WireFault, any_frame}
+use Rattle.mr_desk.proofs.Names.{decoded, frame_fault, if◌then◌else◌, of_wire}
 
 -- the fault of what was decoded of so many bytes
 abbrev fault_at : (Frame → Option Fault) → ℕ → Result (Frame × ℕ) WireFault → Option Fault

@@ -1,29 +1,17 @@
 -- events of a replica whose host writes
 use Rattle.std.proofs.Common.{◌≡◌, ◌≢◌, ◌++◌, ◌∷◌, [], ℕ, List, Option, None, Result, Ok, Err, refl, subst, sym, true, false, Bool}
-use Rattle.mr_itemset.specs.Normal.{Normal}
-use Rattle.mr_itemset.specs.Sparing.{sparing_form}
-use Rattle.mr_kept.specs.Answered.{Answered, IsUnnoted, reply_by}
-use Rattle.mr_kept.specs.Kept.{AtOnce, Later, SameJournal, journal_of, leaving}
+use Rattle.mr_desk.proofs.Names.{Answered, AtOnce, Call, Fault, Gives, Hosted, IsEventOf, IsMergeIn, IsUnhanded, IsUnnoted, KeptAnswers, KeptMerges}
+use Rattle.mr_desk.proofs.Names.{KeptTakesNote, Later, Normal, Refuses, SameHost, SameJournal, State, TakesMeant, VersionNumbers, call_fault, inside}
+use Rattle.mr_desk.proofs.Names.{is_settled, journal_of, journaled_of, leaving, may_show, merge_fault_in, note_of, of_hosted, of_kept, reply_by, sparing_form}
 use Rattle.mr_kept.specs.declared.fault.KeptFault.{KeptFault}
 use Rattle.mr_kept.specs.declared.fault.KeptFault.TheVariants as kept
-use Rattle.mr_hosted.specs.Hosted.{IsUnhanded, SameHost, is_settled, journaled_of, may_show}
 use Rattle.mr_hosted.specs.declared.fault.HostedFault.{HostedFault}
 use Rattle.mr_hosted.specs.declared.fault.HostedFault.TheVariants as hosted
-use Rattle.mr_hosted.specs.declared.hosted.Hosted.{Hosted}
-use Rattle.mr_replica.specs.State.{State}
 use Rattle.mr_replica.specs.Step.{Steps}
 use Rattle.mr_replica.specs.declared.event.Event.{Event}
 use Rattle.mr_replica.proofs.Replaying.{refused_same}
 use Rattle.mr_replica.specs.declared.event.Reply.{Reply}
-use Rattle.mr_desk.specs.declared.call.Call.{Call}
-use Rattle.mr_desk.specs.Kept.{Gives, KeptAnswers, KeptMerges, Refuses, TakesMeant, inside}
 use Rattle.mr_desk.specs.inner.Kept.{KeptTells, told_where}
-use Rattle.mr_desk.specs.Merge.{IsMergeIn, merge_fault_in}
-use Rattle.mr_desk.specs.Notes.{KeptTakesNote, note_of}
-use Rattle.mr_desk.specs.declared.call.VersionNumbers.{VersionNumbers}
-use Rattle.mr_desk.specs.declared.fault.Fault.{Fault}
-use Rattle.mr_desk.specs.Asked.{call_fault, IsEventOf}
-use Rattle.mr_desk.specs.Fault.{of_hosted, of_kept}
 use Rattle.mr_desk.specs.KeptCommit.{Committed, HasNoWay, KeptCommits, Uncommitted}
 use Rattle.mr_desk.specs.declared.reply.Told.{Told}
 use Rattle.mr_desk.specs.declared.reply.Told.TheVariants as told

@@ -1,3 +1,4 @@
+pub mod Names
 mod FrameLemmas
 mod KeptLemmas
 mod LogLemmas

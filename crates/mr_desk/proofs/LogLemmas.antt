@@ -1,7 +1,6 @@
 -- a log is read event by event
 use Rattle.std.proofs.Common.{◌≡◌, ◌<◌, ◌≤◌, ◌+◌, ◌++◌, ◌∷◌, [], ℕ, List, length, take, drop, All, Err, refl, sym, ap, ◌∙◌, arith, length-append, append_assoc, append-nil}
-use Rattle.std.specs.List.{flat_map}
-use Rattle.std.proofs.lemmas.List.{take-append-drop, flat_map_more}
+use Rattle.mr_desk.proofs.Names.{flat_map, flat_map_more, take-append-drop}
 use Rattle.std.proofs.lemmas.List.Elements.{All-nil, All-push}
 use Rattle.mr_wire.specs.Spelling.{u32}
 use Rattle.mr_entry.specs.Decoding.{event_decoded}

@@ -1,21 +1,11 @@
 -- the heads of an item, and what they say
 use Rattle.std.proofs.Common.{◌≡◌, List, Option, None, Result, Err, ◌∙◌, sym, ap, subst}
-use Rattle.mr_version.specs.Name.{Name}
+use Rattle.mr_desk.proofs.Names.{BadLength, BytesBehind, Entry, Event, Failed, Fault, Filter, IsMergeIn, IsMergeOf, IsTogether, Merge, Message, Name}
+use Rattle.mr_desk.proofs.Names.{NoConflict, Normal, NotText, Open, OtherDevice, OtherFrame, OutOfMemory, Peer, Reads, Refused, Replay, Rev, State, TooLarge}
+use Rattle.mr_desk.proofs.Names.{Unsettled, Version, VersionFault, VersionNumbers, Wire, edit_fault_over, last_under, merge_fault, merge_fault_in, named_by}
+use Rattle.mr_desk.proofs.Names.{option_map, said_by, unmerged, version_fault, ◌orelse◌}
 use Rattle.mr_mail.specs.Mail.{Mail, MailCard}
-use Rattle.mr_feed.specs.declared.entry.Entry.{Entry}
-use Rattle.mr_madewith.specs.Revision.{Rev}
-use Rattle.mr_desk.specs.Fault.{Reads}
-use Rattle.std.specs.Option.{option_map}
-use Rattle.mr_version.specs.declared.fault.VersionFault.{VersionFault}
-use Rattle.mr_itemset.specs.Normal.{Normal}
-use Rattle.mr_replica.specs.Refusal.{◌orelse◌}
-use Rattle.mr_replica.specs.State.{State}
 use Rattle.mr_replica.specs.declared.event.Event.{Event as ReplicaEvent}
-use Rattle.mr_desk.specs.Merge.{IsMergeIn, IsMergeOf, IsTogether, edit_fault_over, last_under, merge_fault, merge_fault_in, said_by, unmerged}
-use Rattle.mr_desk.specs.Version.{named_by, version_fault}
-use Rattle.mr_desk.specs.declared.call.VersionNumbers.{VersionNumbers}
-use Rattle.mr_desk.specs.declared.fault.Fault.{Fault}
-use Rattle.mr_desk.specs.declared.fault.Fault.TheVariants.{OutOfMemory, NotText, BytesBehind, OtherFrame, Unsettled, Failed, OtherDevice, TooLarge, BadLength, NoConflict, Version, Message, Filter, Wire, Event, Replay, Refused, Open, Merge, Peer}
 
 -- one fault is read of two things alike
 pub unread-same : {X Y : Type 0} (a b : Option Fault) (P : X → Type 0) (Q : Y → Type 0) (f : Fault) → a ≡ b → Reads (Unit {0}) a P (Err f) → Reads (Unit {0}) b Q (Err f)

@@ -1,11 +1,9 @@
 -- the parts of a text between its commas, one after the other
 use Rattle.std.proofs.Common.{◌≡◌, ◌==◌, ℕ, List, [], ◌∷◌, length, Option, Some, None, Bor, lit<, arith}
-use Rattle.std.specs.Option.{MatchOption}
-use Rattle.std.specs.List.{position_or_len}
+use Rattle.mr_desk.proofs.Names.{MatchOption, parts_of, position_or_len}
 use Rattle.std.proofs.lemmas.List.Sums.{fails_before_first}
 use Rattle.std.proofs.lemmas.List.Splits.{slice_split_none, slice_split_first}
 use Rattle.std.proofs.lemmas.Str.Pattern.{IsSplitOnceResult, split_once_first}
-use Rattle.mr_desk.specs.Draft.{parts_of}
 
 -- a text with no comma is its one part
 parts-whole : (text : List ℕ) → position_or_len (λ b. b == 44) text ≡ length text → parts_of text ≡ text ∷ []

@@ -1,44 +1,24 @@
 -- what is wrong with what is handed over is never a refusal, nor a fault of keeping
 use Rattle.std.proofs.Common.{◌≡◌, ◌&&◌, not, ℕ, Bool, true, false, List, length, map, nat_lt, Option, Some, None, Result, Ok, Err, refl, subst}
-use Rattle.std.specs.Prelude.{if◌then◌else◌}
-use Rattle.std.specs.Option.{option_map}
+use Rattle.mr_desk.proofs.Names.{BadLength, BytesBehind, Call, DeskState, Entry, Event, Failed, Fault, Filter, Frame, Hosted, IsEventOf, IsMergeIn}
+use Rattle.mr_desk.proofs.Names.{KeptAnswers, KeptMerges, Merge, Message, NeedsMemory, NoConflict, Normal, NotText, Open, OtherDevice, OtherFrame}
+use Rattle.mr_desk.proofs.Names.{OutOfMemory, Peer, Reads, Refused, Replay, Rev, State, Stays, TakesMeant, TooLarge, Unsettled, Version, VersionFault}
+use Rattle.mr_desk.proofs.Names.{VersionNumbers, Wire, WireFault, any_frame, call_fault, decoded, draft_fault, edit_fault_over, first_version_fault}
+use Rattle.mr_desk.proofs.Names.{frame_fault, have_one_content, heads_of, if◌then◌else◌, inside, labels_of, last_under, may_show, merge_fault, merge_fault_in}
+use Rattle.mr_desk.proofs.Names.{named_by, of_message, of_wire, only_ask, only_receipt, option_map, said_by, said_together, version_fault, view_of, ◌orelse◌}
 use Rattle.std.specs.Str.{is_utf8}
 use Rattle.mr_mail.specs.Admits.{first_fault}
 use Rattle.mr_mail.specs.declared.fault.MessageFault.{MessageFault}
 use Rattle.mr_mail.specs.declared.fault.MessageFault.TheVariants as message
-use Rattle.mr_version.specs.declared.fault.VersionFault.{VersionFault}
-use Rattle.mr_wire.specs.Decoding.{decoded}
-use Rattle.mr_wire.specs.declared.fault.WireFault.{WireFault}
 use Rattle.mr_wire.specs.declared.fault.WireFault.TheVariants as wire
-use Rattle.mr_wire.specs.declared.frame.Frame.{Frame}
 use Rattle.mr_wire.specs.declared.frame.Frame.TheVariants as frame
 use Rattle.mr_mail.specs.declared.label.TheConstants.{MAX_LABELS}
-use Rattle.mr_feed.specs.declared.entry.Entry.{Entry}
-use Rattle.mr_madewith.specs.Revision.{Rev}
 use Rattle.mr_maildir.specs.Merging.{differ}
-use Rattle.mr_maildir.specs.Policy.{have_one_content, view_of}
 use Rattle.mr_maildir.specs.declared.policy.MergeFault.TheVariants.{ContentsDiffer, TooManyLabels}
-use Rattle.mr_itemset.specs.Normal.{Normal}
-use Rattle.mr_hosted.specs.Hosted.{may_show}
-use Rattle.mr_hosted.specs.declared.hosted.Hosted.{Hosted}
-use Rattle.mr_replica.specs.Refusal.{◌orelse◌}
-use Rattle.mr_replica.specs.State.{State}
 use Rattle.mr_replica.specs.declared.event.Event.{Event as ReplicaEvent}
-use Rattle.mr_desk.specs.Asked.{call_fault, IsEventOf, NeedsMemory}
-use Rattle.mr_desk.specs.Desk.{DeskState}
-use Rattle.mr_desk.specs.Draft.{draft_fault, labels_of}
-use Rattle.mr_desk.specs.Fault.{Reads, of_message, of_wire}
-use Rattle.mr_desk.specs.Frames.{any_frame, frame_fault, only_ask, only_receipt}
-use Rattle.mr_desk.specs.Kept.{KeptAnswers, KeptMerges, Stays, TakesMeant, inside}
-use Rattle.mr_desk.specs.Merge.{IsMergeIn, edit_fault_over, heads_of, last_under, merge_fault, merge_fault_in, said_by, said_together}
 use Rattle.mr_desk.specs.Serves.{Answers, Merges, ServesMeant}
-use Rattle.mr_desk.specs.Version.{first_version_fault, named_by, version_fault}
-use Rattle.mr_desk.specs.declared.call.VersionNumbers.{VersionNumbers}
-use Rattle.mr_desk.specs.declared.call.Call.{Call}
 use Rattle.mr_desk.specs.declared.call.Call.TheVariants.{Create, Edit, Retire, Pull, Receive, CutIn, Answer, Next, CutOut, Vouch, Release}
 use Rattle.mr_desk.specs.declared.call.Draft.{Draft}
-use Rattle.mr_desk.specs.declared.fault.Fault.{Fault}
-use Rattle.mr_desk.specs.declared.fault.Fault.TheVariants.{OutOfMemory, NotText, BytesBehind, OtherFrame, Unsettled, Failed, OtherDevice, TooLarge, BadLength, NoConflict, Version, Message, Filter, Wire, Event, Replay, Refused, Open, Merge, Peer}
 
 -- it is no refusal, nor a fault of keeping, nor that something waits
 abbrev IsUnrefused : Option Fault → Type 0

@@ -1,12 +1,8 @@
 -- versions by their numbers, one after the other
 use Rattle.std.proofs.Common.{◌≡◌, ◌<◌, ◌+◌, ◌++◌, ◌∷◌, [], ℕ, List, length, get_or, take, map, Option, Some, None, sym, ap, ◌∙◌}
-use Rattle.std.specs.Prelude.{is_some}
-use Rattle.std.proofs.lemmas.List.{get_or_default, map-append, take_more}
-use Rattle.mr_version.specs.Name.{Name}
-use Rattle.mr_version.specs.declared.fault.VersionFault.{VersionFault}
+use Rattle.mr_desk.proofs.Names.{Name, VersionFault, VersionNumbers, first_unnamed, first_version_fault, get_or_default, is_some, map-append, named_by}
+use Rattle.mr_desk.proofs.Names.{take_more, version_fault}
 use Rattle.mr_replica.proofs.Choice.{find_here, find_none_more}
-use Rattle.mr_desk.specs.Version.{first_unnamed, first_version_fault, named_by, version_fault}
-use Rattle.mr_desk.specs.declared.call.VersionNumbers.{VersionNumbers}
 
 -- the fault of what was found
 abbrev fault_by : Option VersionNumbers → Option VersionFault

@@ -1,6 +1,5 @@
 use Rattle.std.proofs.Common.{◌≡◌, take}
-use Rattle.std.specs.Option.{option_copied}
-use Rattle.mr_desk.specs.Merge.{last_under}
+use Rattle.mr_desk.proofs.Names.{last_under, option_copied}
 use Rattle.mr_desk.proofs.ancestor.last_under.Given as goal
 
 abbrev pub invariant-loop-entry : goal.invariant-loop-entry

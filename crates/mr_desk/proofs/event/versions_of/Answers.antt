@@ -1,7 +1,5 @@
 use Rattle.std.proofs.Common.{ap}
-use Rattle.std.specs.Option.{option_map}
-use Rattle.std.proofs.lemmas.Result.{err_from_is_err_and}
-use Rattle.mr_desk.specs.declared.call.VersionNumbers.{VersionNumbers}
+use Rattle.mr_desk.proofs.Names.{VersionNumbers, err_from_is_err_and, option_map}
 use Rattle.mr_desk.specs.declared.fault.Fault.TheVariants as fault
 use Rattle.mr_desk.proofs.VersionLemmas.{first-fault, named-more, versions-more}
 use Rattle.mr_desk.proofs.event.versions_of.Goals as goal

@@ -1,6 +1,4 @@
-use Rattle.std.proofs.lemmas.Result.{err_from_is_err_and}
-use Rattle.mr_wire.specs.declared.frame.Frame.{Frame}
-use Rattle.mr_desk.specs.Frames.{only_receipt, IsFrameIn}
+use Rattle.mr_desk.proofs.Names.{Frame, IsFrameIn, err_from_is_err_and, only_receipt}
 use Rattle.mr_desk.proofs.FrameLemmas.{reads-narrower}
 use Rattle.mr_desk.proofs.frames.receipt_of.Goals as goal
 

@@ -1,9 +1,5 @@
 use Rattle.std.proofs.Common.{◌≡◌, None, Err, subst}
-use Rattle.std.proofs.lemmas.Result.{err_from_is_err_and}
-use Rattle.mr_itemset.specs.Normal.{Normal}
-use Rattle.mr_replica.specs.State.{State}
-use Rattle.mr_desk.specs.Fault.{Reads}
-use Rattle.mr_desk.specs.Merge.{IsMergeIn, merge_fault_in}
+use Rattle.mr_desk.proofs.Names.{IsMergeIn, Normal, Reads, State, err_from_is_err_and, merge_fault_in}
 use Rattle.mr_desk.proofs.KeptLemmas.{untaken-merge}
 use Rattle.mr_desk.proofs.ReadingLemmas.{merges-kept-unread}
 use Rattle.mr_desk.proofs.kept.merge.Goals as goal

@@ -1,8 +1,6 @@
 use Rattle.std.proofs.Common.{◌≡◌, [], ℕ, List, ◌∙◌, arith, rules, subst}
-use Rattle.mr_replica.specs.State.{new_state}
+use Rattle.mr_desk.proofs.Names.{AreGiven, inside, new_state}
 use Rattle.mr_kept.specs.Beginning.{IsBeginFault}
-use Rattle.mr_desk.specs.Kept.{inside}
-use Rattle.mr_desk.specs.KeptOpening.{AreGiven}
 use Rattle.mr_desk.proofs.kept_opening.begin_kept.Goals as goal
 
 pub returns-in-Ok : goal.returns-in-Ok

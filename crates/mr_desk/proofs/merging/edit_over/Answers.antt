@@ -1,7 +1,5 @@
 use Rattle.std.proofs.Common.{◌∙◌, sym}
-use Rattle.std.specs.Option.{option_copied}
-use Rattle.std.proofs.lemmas.Result.{err_from_is_err_and}
-use Rattle.mr_desk.specs.Merge.{IsEditOver, IsTogether, edit_fault_over, unmerged}
+use Rattle.mr_desk.proofs.Names.{IsEditOver, IsTogether, edit_fault_over, err_from_is_err_and, option_copied, unmerged}
 use Rattle.mr_desk.proofs.MergeLemmas.{together-over, unmerged-over, unread-same}
 use Rattle.mr_desk.proofs.merging.edit_over.Goals as goal
 

@@ -1,7 +1,5 @@
 use Rattle.std.proofs.Common.{◌∙◌, List, subst}
-use Rattle.mr_madewith.specs.Revision.{Rev}
-use Rattle.mr_desk.specs.Fault.{Reads}
-use Rattle.mr_desk.specs.Merge.{IsEditOver, edit_fault_over}
+use Rattle.mr_desk.proofs.Names.{IsEditOver, Reads, Rev, edit_fault_over}
 use Rattle.mr_desk.proofs.merging.merge_of.Goals as goal
 
 pub returns : goal.returns

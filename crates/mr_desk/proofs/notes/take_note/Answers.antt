@@ -1,9 +1,6 @@
 use Rattle.std.proofs.Common.{◌≡◌, rules, subst}
 use Rattle.mr_entry.specs.Note.{NoteParts}
-use Rattle.mr_kept.specs.Answered.{IsUnnoted}
-use Rattle.mr_kept.specs.Kept.{journal_of}
-use Rattle.mr_hosted.specs.Hosted.{journaled_of}
-use Rattle.mr_desk.specs.Notes.{note_of}
+use Rattle.mr_desk.proofs.Names.{IsUnnoted, journal_of, journaled_of, note_of}
 use Rattle.mr_desk.proofs.KeptLemmas.{unnoted}
 use Rattle.mr_desk.proofs.notes.take_note.Goals as goal
 

@@ -1,7 +1,6 @@
 use Rattle.std.proofs.Common.{◌≡◌, map, take, true}
-use Rattle.std.specs.List.{list_all}
+use Rattle.mr_desk.proofs.Names.{is_author, list_all}
 use Rattle.mr_desk.specs.Peer.{journal_by}
-use Rattle.mr_desk.specs.Version.{is_author}
 use Rattle.mr_desk.proofs.peer.journals_of.Given as goal
 
 -- the journals so far are those that were handed over, and each has an author's id

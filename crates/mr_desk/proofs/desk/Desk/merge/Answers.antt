@@ -1,10 +1,5 @@
 use Rattle.std.proofs.Common.{◌≡◌, None, Err, ap, subst}
-use Rattle.std.proofs.lemmas.Result.{err_from_is_err_and}
-use Rattle.mr_itemset.specs.Normal.{Normal}
-use Rattle.mr_replica.specs.State.{State}
-use Rattle.mr_desk.specs.Desk.{DeskState}
-use Rattle.mr_desk.specs.Fault.{Reads}
-use Rattle.mr_desk.specs.Merge.{IsMergeIn, merge_fault_in}
+use Rattle.mr_desk.proofs.Names.{DeskState, IsMergeIn, Normal, Reads, State, err_from_is_err_and, merge_fault_in}
 use Rattle.mr_desk.proofs.ReadingLemmas.{merges-unread}
 use Rattle.mr_desk.proofs.desk.Desk.merge.Goals as goal
 
