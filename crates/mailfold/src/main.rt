@@ -39,6 +39,7 @@ mod renew;
 mod scan;
 mod show;
 mod status;
+mod streams;
 mod talk;
 mod tallies;
 mod told;
@@ -60,6 +61,7 @@ use queries::{export_mail, list_mails, log_events, log_history, show_version, ve
 use renew::renew_folder;
 use scan::scan_folder;
 use status::print_status;
+use streams::hold_places;
 use std::env;
 use std::io::IsTerminal;
 use std::process::ExitCode;
@@ -78,8 +80,20 @@ fn exit_with(status: u8) -> ExitCode
     ExitCode::from(status)
 }
 
-/// Does what the command line asks for.
+/// Does what the command line asks for, with no file in the place of a standard stream.
 fn run(rt: &HostRuntime) -> Ending {
+    match hold_places(rt) {
+        Ok(places) => {
+            let ending = run_given(rt);
+            drop(places);
+            ending
+        }
+        Err(said) => end_with(rt, Fault::System(said)),
+    }
+}
+
+/// Does what the command line asks for.
+fn run_given(rt: &HostRuntime) -> Ending {
     match words_given(rt) {
         Ok(words) => run_words(rt, &words),
         Err(fault) => end_with(rt, fault),

@@ -6,14 +6,35 @@
 ghost use Rattle.std.specs.Prelude.{◌≡◌};
 ghost use Rattle.std.specs.Process.{exit_status};
 
+mod streams;
+
 use mr_program::{Scripts, run_mailrep};
 use std::process::ExitCode;
 use std::rt::Files;
 use std::{fs, io};
+use streams::hold_places;
+
+/// The status of a command whose streams or script can't be read.
+const UNREAD: u8 = 1;
 
 fn main(rt: HostRuntime) -> ExitCode {
-    let (input, mut output, mut errors) = (rt.reader(), io::writer(&rt), rt.stderr());
-    exit_with(run_mailrep(&rt, &rt, &Disk(&rt), input, &mut output, &mut errors))
+    match hold_places(&rt) {
+        Ok(places) => {
+            let code = run(&rt);
+            drop(places);
+            code
+        }
+        Err(said) => {
+            let _ = eprintln!(rt; "mailrep: {said}");
+            exit_with(UNREAD)
+        }
+    }
+}
+
+/// Does what the command line asks for, with no file in the place of a standard stream.
+fn run(rt: &HostRuntime) -> ExitCode {
+    let (input, mut output, mut errors) = (rt.reader(), io::writer(rt), rt.stderr());
+    exit_with(run_mailrep(rt, rt, &Disk(rt), input, &mut output, &mut errors))
 }
 
 /// The process ends with this status.
