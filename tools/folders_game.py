@@ -1,0 +1,243 @@
+"""Plays a history of folders by the program and beside the model, and says what is wrong at its end: for tools/try-folders."""
+
+import os
+import re
+import shutil
+import tempfile
+
+import folders_play
+from folders_model import Model
+from folders_play import DIGEST_NAME, NOWHERE, day, selects, views
+
+ROUNDS = 6
+ACTS = ("new", "fill", "clear", "flag", "move", "carry", "copy", "spread", "remove", "delete", "edit", "rename")
+COMMANDS = {"scan": 1, "expire": 1, "renew": 1, "checkpoint": 1, "killscan": 1, "sync": 2, "cut": 2, "kill": 2}
+CLAIMS = ("holds", "quiet", "kept", "rest")
+
+
+class Fault(Exception):
+    def __init__(self, kind, text):
+        super().__init__(kind, text)
+        self.kind, self.text = kind, text
+
+
+class Game:
+    def __init__(self, program, history, room, killer=None, watches=None):
+        self.player, self.model, self.history = folders_play.Player(program, room, killer), Model(), history
+        self.killer, self.watches, self.is_cut, self.is_renewed, self.commands = killer, watches, False, False, 0
+        self.is_at_rest = False
+
+    # -- commands, and what users did before them
+
+    def device(self, name):
+        return self.player.devices[name]
+
+    def note(self, device):
+        """Tells the model what a user did since the last command."""
+        files = self.player.listed(device)
+        self.model.changed(device.name, device.files, files)
+        device.files = files
+
+    def look(self, device):
+        device.files = self.player.listed(device)
+        seen = views(device.files)
+        self.model.seen[device.name] = seen
+        return seen
+
+    def ended(self, what, end):
+        self.commands += 1
+        if self.watches:
+            self.watches(f"    {what}: {end.status} {end.err.strip() or end.out.strip()}")
+        if end.status != 0:
+            text = (end.err.strip().splitlines() or [""])[-1]
+            raise Fault("status", f"{what} ended with {end.status}: {text}")
+
+    def alone(self, device, word, *words):
+        self.note(device)
+        end = self.player.run(word, device.root, *words)
+        self.ended(f"{word} {device.name}", end)
+        device.is_scanned = device.is_scanned or word == "scan"
+        self.look(device)
+        return end
+
+    def scan(self, device):
+        device.is_edited = False
+        return self.alone(device, "scan")
+
+    def killscan(self, device, at):
+        self.note(device)
+        self.watched(f"killscan {device.name}", self.player.run("scan", device.root, kill_at=at))
+        self.look(device)
+
+    def watched(self, what, *ends):
+        self.commands += len(ends)
+        if self.watches:
+            self.watches(f"    {what}: " + " | ".join(f"{end.status} {end.err.strip()}" for end in ends))
+
+    def expire(self, device):
+        self.alone(device, "expire")
+
+    def checkpoint(self, device):
+        self.alone(device, "checkpoint")
+
+    def renew(self, device, *words):
+        """What a careful user does: a scan before it."""
+        self.scan(device)
+        number = self.player.next_number
+        self.player.next_number += 1
+        self.alone(device, "renew", "--id", str(number), *(["--filter", words[0]] if words else []))
+        self.is_renewed, device.is_scanned = True, False
+        if words:
+            device.filter = words[0]
+        self.model.renewed(device.name)
+
+    def sync(self, caller, server, cut=None, kills=(None, None), is_whole=True):
+        self.note(caller), self.note(server)
+        ends = self.player.sync(caller, server, cut, kills)
+        name = f"sync {caller.name} {server.name}"
+        if is_whole:
+            for end, device in zip(ends, (caller, server)):
+                if end.status != 0 and ends[0].status == 3:
+                    continue  # the caller was cut short since the server ended: the server's text says why
+                self.ended(f"{name}, {device.name}", end)
+            if any(end.status for end in ends):
+                raise Fault("status", f"{name} ended with {ends[0].status} and {ends[1].status}: {ends[0].err.strip()}")
+        else:
+            self.watched(name, *ends)
+        is_whole = all(end.status == 0 for end in ends)
+        is_first = any("is told by the next sync" in end.err for end in ends)
+        seen = {device.name: views(self.player.listed(device)) for device in (caller, server)}
+        self.model.synced(caller, server, is_whole, is_first, seen)
+        for device in (caller, server):
+            self.look(device)
+
+    def cut(self, caller, server, most):
+        self.sync(caller, server, cut=int(most), is_whole=False)
+
+    def kill(self, caller, server, who, at):
+        self.sync(caller, server, kills=tuple(at if letter in who else None for letter in "cs"), is_whole=False)
+
+    # -- what a scene claims
+
+    def holds(self, device, mail, wanted, flags=""):
+        found = views(self.player.listed(device)).get(mail, NOWHERE)
+        wanted = folders_play.View(frozenset() if wanted == "-" else frozenset(wanted.split(",")), "".join(sorted(flags)))
+        if found != wanted:
+            raise Fault("holds", f"{device.name} has {mail} in {found}, and not in {wanted}")
+
+    def quiet(self, device):
+        """A scan has nothing to do."""
+        end = self.scan(device)
+        if not re.search(r"^0 new, 0 changed, 0 deleted here; 0 shown, 0 removed", end.out + end.err, re.M):
+            raise Fault("quiet", f"scan {device.name} tells, though nothing was done: {(end.out + end.err).strip()}")
+
+    def kept(self, device, mail):
+        """The bytes of a mail are somewhere below the folder."""
+        text = folders_play.body(mail)
+        for where, _, files in os.walk(self.player.root_of(device)):
+            for name in files:
+                with open(os.path.join(where, name), "rb") as file:
+                    if file.read(len(text) + 1) == text:
+                        return
+        raise Fault("kept", f"no file below {device.name} has the bytes of {mail}")
+
+    # -- a history
+
+    def play(self):
+        """What is wrong: a list of faults, each a kind and a text."""
+        try:
+            for name, filter_words, layout in self.history.folders:
+                self.model.begin(name)
+                self.player.make(name, filter_words, layout)
+            for step in self.history.steps:
+                self.step(step)
+            if not self.is_at_rest:
+                self.rest()
+            return []
+        except Fault as fault:
+            return [fault]
+
+    def step(self, step):
+        word, *rest = step
+        if self.watches:
+            self.watches(" ".join(step))
+        if word in ACTS:
+            getattr(self.player, word)(self.device(rest[0]), *rest[1:])
+        elif word in COMMANDS:
+            count = COMMANDS[word]
+            getattr(self, word)(*map(self.device, rest[:count]), *rest[count:])
+        elif word == "rest":
+            self.rest()
+        elif word in CLAIMS:
+            getattr(self, word)(self.device(rest[0]), *rest[1:])
+        else:
+            raise ValueError(f"no step is named {word}")
+        if word in ACTS or word in COMMANDS:
+            self.is_at_rest = False
+
+    def state(self):
+        return [(self.player.log_size(device), sorted((file.mail, file.folder, file.flags) for file in device.files)) for device in self.player.devices.values()]
+
+    def rest(self):
+        """Syncs over all edges, both ways, until nothing is told any more, and then looks at what is there."""
+        for device in self.player.devices.values():
+            if device.is_edited:
+                self.scan(device)
+        for _ in range(ROUNDS + 1):
+            before = self.state()
+            for one, other in self.history.edges:
+                self.sync(self.device(one), self.device(other))
+                self.sync(self.device(other), self.device(one))
+            if self.state() == before:
+                break
+        else:
+            raise Fault("rest", f"syncs still tell something after {ROUNDS} rounds: {self.differing()}")
+        self.is_at_rest = True
+        self.check()
+
+    def differing(self):
+        """Where two folders differ, for a text."""
+        shown = [(device.name, views(device.files)) for device in self.player.devices.values()]
+        mails = sorted({mail for _, seen in shown for mail in seen})
+        lines = [f"{mail}: " + ", ".join(f"{name} {seen.get(mail, NOWHERE)}" for name, seen in shown) for mail in mails if len({str(seen.get(mail)) for _, seen in shown}) > 1]
+        return "; ".join(lines[:3]) or "all show the same"
+
+    def check(self):
+        devices = list(self.player.devices.values())
+        alls = [device for device in devices if device.has_all]
+        shown = {device.name: views(device.files) for device in devices}
+        wanted = shown[alls[0].name]
+        for device in devices:
+            for mail in sorted(wanted.keys() | shown[device.name].keys()):
+                here, there = shown[device.name].get(mail, NOWHERE), wanted.get(mail, NOWHERE)
+                is_selected = device.has_all or (selects(device.filter, there, day(mail, self.player.times[mail])) if there.folders else False)
+                options = {True: (there,), False: (NOWHERE,), None: (there, NOWHERE)}[is_selected]
+                if here not in options:
+                    raise Fault("differ" if device.has_all else "filter", f"{mail}: {alls[0].name} shows {there}, and {device.name} ({device.filter}) {here}")
+        for device in devices:
+            places = [(file.mail, file.folder) for file in device.files]
+            if twice := {place for place in places if places.count(place) > 1}:
+                raise Fault("doubled", f"{device.name} has {twice} twice")
+        for mail in sorted({act.mail for act in self.model.acts} | wanted.keys()):
+            for kind, text in self.model.judged(mail, wanted.get(mail, NOWHERE)):
+                raise Fault(kind, text)
+        for device in devices:
+            for file in device.files:
+                if DIGEST_NAME.match(file.raw) and file.folder != file.raw:
+                    raise Fault("names", f"{device.name} has {file.mail} in a folder {file.raw}, which is {file.folder}")
+        if not any(step[0] == "edit" and step[-1] == "inplace" for step in self.history.steps):
+            for device in devices:
+                end = self.player.run("verify", device.root)
+                self.commands += 1
+                if end.status:
+                    raise Fault("verify", f"verify {device.name}: {(end.out + end.err).strip()}")
+
+
+def played(program, history, killer=None, watches=None):
+    """Plays a history in a new room: what is wrong, and the game."""
+    room = tempfile.mkdtemp(prefix="try-folders-", dir=folders_play.ROOM)
+    try:
+        game = Game(program, history, room, killer, watches)
+        return game.play(), game
+    finally:
+        shutil.rmtree(room, ignore_errors=True)
