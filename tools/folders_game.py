@@ -10,9 +10,9 @@ from folders_model import Model
 from folders_play import DIGEST_NAME, NOWHERE, day, selects, views
 
 ROUNDS = 6
-ACTS = ("new", "fill", "clear", "flag", "move", "carry", "copy", "spread", "remove", "delete", "edit", "rename")
+ACTS = ("new", "fill", "clear", "flag", "move", "carry", "copy", "spread", "remove", "delete", "edit", "rename", "mkfolder")
 COMMANDS = {"scan": 1, "expire": 1, "renew": 1, "checkpoint": 1, "killscan": 1, "sync": 2, "cut": 2, "kill": 2}
-CLAIMS = ("holds", "quiet", "kept", "rest")
+CLAIMS = ("holds", "quiet", "kept", "refuses", "items")
 
 
 class Fault(Exception):
@@ -25,7 +25,7 @@ class Game:
     def __init__(self, program, history, room, killer=None, watches=None):
         self.player, self.model, self.history = folders_play.Player(program, room, killer), Model(), history
         self.killer, self.watches, self.is_cut, self.is_renewed, self.commands = killer, watches, False, False, 0
-        self.is_at_rest = False
+        self.is_at_rest, self.allowed = False, {0}
 
     # -- commands, and what users did before them
 
@@ -48,7 +48,7 @@ class Game:
         self.commands += 1
         if self.watches:
             self.watches(f"    {what}: {end.status} {end.err.strip() or end.out.strip()}")
-        if end.status != 0:
+        if end.status not in self.allowed:
             text = (end.err.strip().splitlines() or [""])[-1]
             raise Fault("status", f"{what} ended with {end.status}: {text}")
 
@@ -60,9 +60,9 @@ class Game:
         self.look(device)
         return end
 
-    def scan(self, device):
+    def scan(self, device, *words):
         device.is_edited = False
-        return self.alone(device, "scan")
+        return self.alone(device, "scan", *words)
 
     def killscan(self, device, at):
         self.note(device)
@@ -97,11 +97,8 @@ class Game:
         name = f"sync {caller.name} {server.name}"
         if is_whole:
             for end, device in zip(ends, (caller, server)):
-                if end.status != 0 and ends[0].status == 3:
-                    continue  # the caller was cut short since the server ended: the server's text says why
-                self.ended(f"{name}, {device.name}", end)
-            if any(end.status for end in ends):
-                raise Fault("status", f"{name} ended with {ends[0].status} and {ends[1].status}: {ends[0].err.strip()}")
+                if end.status != 3 or ends[0].status == ends[1].status:  # else the text of the one that ended first says why
+                    self.ended(f"{name}, {device.name}", end)
         else:
             self.watched(name, *ends)
         is_whole = all(end.status == 0 for end in ends)
@@ -130,6 +127,23 @@ class Game:
         end = self.scan(device)
         if not re.search(r"^0 new, 0 changed, 0 deleted here; 0 shown, 0 removed", end.out + end.err, re.M):
             raise Fault("quiet", f"scan {device.name} tells, though nothing was done: {(end.out + end.err).strip()}")
+
+    def refuses(self, device, text):
+        """A scan isn't done, with a text."""
+        self.note(device)
+        end = self.player.run("scan", device.root)
+        self.watched(f"scan {device.name}", end)
+        self.look(device)
+        if not end.status or text not in end.err:
+            raise Fault("refuses", f"scan {device.name} ended with {end.status}: {(end.out + end.err).strip()}")
+
+    def items(self, device, wanted):
+        """So many mails were told as new, by this folder and those that it met."""
+        end = self.player.run("log", device.root)
+        found = {line.split("\t")[1].split()[1] for line in end.out.splitlines() if line.split("\t")[1].startswith("new ")}
+        found |= {words[6] for line in end.out.splitlines() for words in [line.split("\t")[1].split()] if words[:2] == ["take", "from"] and words[3] == "mail"}
+        if len(found) != int(wanted):
+            raise Fault("items", f"the log of {device.name} tells of {len(found)} items, and not {wanted}")
 
     def kept(self, device, mail):
         """The bytes of a mail are somewhere below the folder."""
@@ -168,6 +182,8 @@ class Game:
             getattr(self, word)(*map(self.device, rest[:count]), *rest[count:])
         elif word == "rest":
             self.rest()
+        elif word == "allows":
+            self.allowed = {0, *map(int, rest)}
         elif word in CLAIMS:
             getattr(self, word)(self.device(rest[0]), *rest[1:])
         else:

@@ -82,6 +82,7 @@ class Maker:
                 self.edges.append((one, other))
         self.mails = [f"{kind}{number}" for number, kind in enumerate(numbers.choices("mmmmou", k=self.one(1, 1, 2, 2, 3)), 1)]
         self.folders = numbers.sample(FOLDERS[1:], 2) + ["inbox", "inbox"]
+        self.flags = numbers.choices(FLAGS, k=2)
         self.spreads = self.chance(20)
         self.more = 0
         steps = [["new", self.one(*self.names), mail, "inbox"] for mail in self.mails if self.chance(2)]
@@ -95,7 +96,7 @@ class Maker:
     def act(self):
         numbers = self.random
         device, mail = numbers.choice(self.names), numbers.choice(self.mails)
-        folder, target, flag = numbers.choice(self.folders), numbers.choice(self.folders), numbers.choice(FLAGS)
+        folder, target, flag = numbers.choice(self.folders), numbers.choice(self.folders), numbers.choice(self.flags)
         source = self.one("*", "*", "inbox", folder)
         at = numbers.randrange(40)
         if at < 7:

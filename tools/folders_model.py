@@ -1,8 +1,9 @@
 """What users did to each mail, from listings of the folders alone, and what must have come of it: for tools/try-folders.
 
 The model repeats no decision of the program. It knows acts: what one user changed of a mail between two commands on one folder, element by
-element (a folder, or a flag), and which acts that user saw before. Two answers are kept of the last: `past` are acts that surely were in what
-was seen, `heard` those that the folder may have heard of. What must be so of all is asked of the first, what may excuse of the second.
+element (a folder, or a flag), and which acts that user saw before. Of the last three answers are kept: `past` are acts that surely were in what
+was seen, `told` those that surely had reached the folder, `heard` those that may have. What must be so of all is asked of the first, what
+stands beside something of the second, and what may excuse of the third.
 """
 
 import collections
@@ -24,6 +25,7 @@ class Act:
     anew: frozenset = frozenset()  # what a put-back may say anew that it doesn't have
     beyond: frozenset = frozenset()  # folders that may have been set and not shown, as so many others were
     past: frozenset = frozenset()
+    told: frozenset = frozenset()
     heard: frozenset = frozenset()
     is_deletion: bool = False
     is_weak: bool = False  # a folder made anew forgot it
@@ -43,7 +45,7 @@ def equal_toggles(act, acts, counts_beyond=False):
     left = act.set | act.beyond | act.either | (frozenset() if act.is_deletion else act.unset)
     for deletion in acts:
         for other in acts:
-            are_beside = other is not act and act.number not in other.past and other.number not in act.past
+            are_beside = other is not act and act.number not in other.told and other.number not in act.told
             if deletion.is_deletion and are_beside and other.number in deletion.heard:
                 left -= other.set | other.unset | other.anew | other.either | (other.beyond if counts_beyond else frozenset())
     return not left
@@ -72,11 +74,11 @@ EXCUSES = ("equal toggles", "equal toggles beyond", "beyond those shown", "taken
 
 class Model:
     def __init__(self):
-        self.acts, self.heard, self.carried, self.seen = [], {}, {}, {}
+        self.acts, self.heard, self.told, self.carried, self.seen = [], {}, {}, {}, {}
         self.unsure, self.excused = set(), collections.Counter()
 
     def begin(self, device):
-        self.heard[device], self.carried[device], self.seen[device] = set(), collections.defaultdict(set), {}
+        self.heard[device], self.told[device], self.carried[device], self.seen[device] = set(), set(), collections.defaultdict(set), {}
 
     def changed(self, device, before, after):
         """Takes what a user did in a folder, as it was listed behind one command and before the next."""
@@ -102,13 +104,13 @@ class Model:
             act.unset = frozenset(was.folders)
         known = [other for other in self.acts if other.mail == mail and other.number in self.heard[device]]
         ever = frozenset().union(*(other.touches() for other in known))
-        act.past, act.heard = frozenset(self.carried[device][mail]), frozenset(self.heard[device])
+        act.past, act.told, act.heard = frozenset(self.carried[device][mail]), frozenset(self.told[device]), frozenset(self.heard[device])
         if not was.folders:
             act.anew = ever - act.set
         elif len(was.folders) >= MOST_SHOWN and was.folders != now.folders:
             act.beyond = frozenset(word for word in ever - was.folders - now.folders if not is_flag(word))
         self.acts.append(act)
-        self.heard[device].add(act.number)
+        self.heard[device].add(act.number), self.told[device].add(act.number)
         self.carried[device][mail].add(act.number)
 
     def synced(self, caller, server, is_whole, is_first, seen):
@@ -116,6 +118,9 @@ class Model:
         both = self.heard[caller.name] | self.heard[server.name]
         self.heard[caller.name], self.heard[server.name] = set(both), set(both)
         if is_whole:
+            gave = [self.told[device.name] if device.has_all else set().union(*self.carried[device.name].values()) for device in (caller, server)]
+            self.told[caller.name] |= gave[1]
+            self.told[server.name] |= gave[0] if not is_first else set()
             mails = {mail for device in (caller, server) for mail in self.carried[device.name]}
             here, there = self.carried[caller.name], self.carried[server.name]
             for mail in mails:
@@ -251,7 +256,7 @@ def is_kept(folder, last, acts, shown):
 
 def _act(number, changes, past=(), heard=None, is_deletion=False, beyond=""):
     words = {sign: frozenset(word[1:] for word in changes.split() if word[0] == sign) for sign in "+-"}
-    return Act(number, "m1", "A", words["+"], words["-"], past=frozenset(past), heard=frozenset(past if heard is None else heard), is_deletion=is_deletion,
+    return Act(number, "m1", "A", words["+"], words["-"], past=frozenset(past), told=frozenset(past), heard=frozenset(past if heard is None else heard), is_deletion=is_deletion,
                beyond=frozenset(beyond.split()))
 
 

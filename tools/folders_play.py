@@ -371,6 +371,12 @@ class Player:
                     open_file.write(text)
                 os.rename(place, file.path)
 
+    def mkfolder(self, device, folder):
+        """A folder under the very name that a user gives it, as a mail program makes one before it puts mail there."""
+        self.names.add_folder(folder)
+        for name in ("cur", "new", "tmp"):
+            os.makedirs(os.path.join(folder_path(self.root_of(device), device.layout, folder), name), exist_ok=True)
+
     def rename(self, device, folder, name):
         source, target = self.path(device, folder), folder_path(self.root_of(device), device.layout, name)
         if folder != "inbox" and os.path.isdir(source) and not os.path.exists(target):
