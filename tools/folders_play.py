@@ -220,8 +220,8 @@ class Player:
             raise ValueError(f"init {name}: {end.err}")
         return device
 
-    def sync(self, caller, server, cut=None, kills=(None, None)):
-        """The two ends of a sync."""
+    def sync(self, caller, server, cut=None, kills=(None, None), programs=None):
+        """The two ends of a sync, by two programs where they are named."""
         ends = []
         down, up = os.pipe(), os.pipe()
         if cut is None:
@@ -230,8 +230,9 @@ class Player:
             down_end, up_end = os.pipe(), os.pipe()
             fds = ((up_end[0], down[1]), (down_end[0], up[1]))
             relay = Relay(cut)
-        for (word, device), (reads, writes), kill_at in zip((("sync", caller), ("serve", server)), fds, kills):
-            ends.append(subprocess.Popen([self.program, word, device.root], cwd=self.room, stdin=reads, stdout=writes, stderr=subprocess.PIPE,
+        programs = programs or [self.program] * 2
+        for program, (word, device), (reads, writes), kill_at in zip(programs, (("sync", caller), ("serve", server)), fds, kills):
+            ends.append(subprocess.Popen([program, word, device.root], cwd=self.room, stdin=reads, stdout=writes, stderr=subprocess.PIPE,
                                          env=self.surroundings(kill_at)))
         for pair in fds:
             for fd in pair:
