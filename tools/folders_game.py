@@ -6,6 +6,7 @@ import shutil
 import tempfile
 
 import folders_play
+import folders_reference
 from folders_model import Model
 from folders_play import DIGEST_NAME, NOWHERE, day, selects, views
 
@@ -23,7 +24,8 @@ class Fault(Exception):
 
 class Game:
     def __init__(self, program, history, room, killer=None, watches=None):
-        self.player, self.model, self.history = folders_play.Player(program, room, killer), Model(), history
+        self.player = folders_reference.Reference(room, program.split(":")[1]) if program.startswith("reference:") else folders_play.Player(program, room, killer)
+        self.model, self.history = Model(), history
         self.killer, self.watches, self.is_cut, self.is_renewed, self.commands = killer, watches, False, False, 0
         self.is_at_rest, self.allowed = False, {0}
 
@@ -103,10 +105,9 @@ class Game:
             self.watched(name, *ends)
         is_whole = all(end.status == 0 for end in ends)
         is_first = any("is told by the next sync" in end.err for end in ends)
-        seen = {device.name: views(self.player.listed(device)) for device in (caller, server)}
-        self.model.synced(caller, server, is_whole, is_first, seen)
         for device in (caller, server):
-            self.look(device)
+            device.files = self.player.listed(device)
+        self.model.synced(caller, server, is_whole, is_first, {device.name: views(device.files) for device in (caller, server)})
 
     def cut(self, caller, server, most):
         self.sync(caller, server, cut=int(most), is_whole=False)

@@ -88,19 +88,21 @@ class Names:
 def listing(root, layout, names):
     """Each file of mail in a Maildir."""
     found, own = [], home(root)
-    for where, folders, files in os.walk(root):
-        if where == root:
-            folders[:] = [name for name in folders if os.path.join(root, name) != own]
-        part = os.path.basename(where)
-        if part not in ("cur", "new") or where == root:
-            continue
-        inner = os.path.relpath(os.path.dirname(where), root)
-        folder = "inbox" if inner == "." else inner[1:] if layout == "dots" and inner[0] == "." else inner.replace("/", ".")
-        for name in files:
-            path = os.path.join(where, name)
-            with open(path, "rb") as file:
-                mail, inode = names.name_of(file.read()), os.fstat(file.fileno()).st_ino
-            found.append(File(mail, names.by_label.get(folder, folder), flags_of(name), inode, path, folder))
+
+    def walk(where, inner):
+        for entry in os.scandir(where):
+            if not entry.is_dir(follow_symlinks=False) or entry.path == own or entry.name == "tmp":
+                continue
+            if entry.name not in ("cur", "new"):
+                walk(entry.path, f"{inner}/{entry.name}" if inner else entry.name)
+                continue
+            folder = inner[1:] if layout == "dots" and inner[:1] == "." else inner.replace("/", ".") or "inbox"
+            for file in os.scandir(entry.path):
+                with open(file.path, "rb") as open_file:
+                    mail = names.name_of(open_file.read())
+                found.append(File(mail, names.by_label.get(folder, folder), flags_of(file.name), file.inode(), file.path, folder))
+
+    walk(root, "")
     found.sort()
     return found
 
