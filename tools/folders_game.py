@@ -26,7 +26,7 @@ class Game:
     def __init__(self, program, history, room, killer=None, watches=None):
         self.player = folders_reference.Reference(room, program.split(":")[1]) if program.startswith("reference:") else folders_play.Player(program, room, killer)
         self.model, self.history = Model(), history
-        self.killer, self.watches, self.is_cut, self.is_renewed, self.commands = killer, watches, False, False, 0
+        self.killer, self.watches, self.commands = killer, watches, 0
         self.is_at_rest, self.allowed = False, {0}
 
     # -- commands, and what users did before them
@@ -37,8 +37,8 @@ class Game:
     def note(self, device):
         """Tells the model what a user did since the last command."""
         files = self.player.listed(device)
-        self.model.changed(device.name, device.files, files)
-        device.files = files
+        self.model.changed(device.name, device.files, files, device.written)
+        device.files, device.written = files, set()
 
     def look(self, device):
         device.files = self.player.listed(device)
@@ -58,7 +58,6 @@ class Game:
         self.note(device)
         end = self.player.run(word, device.root, *words)
         self.ended(f"{word} {device.name}", end)
-        device.is_scanned = device.is_scanned or word == "scan"
         self.look(device)
         return end
 
@@ -88,7 +87,6 @@ class Game:
         number = self.player.next_number
         self.player.next_number += 1
         self.alone(device, "renew", "--id", str(number), *(["--filter", words[0]] if words else []))
-        self.is_renewed, device.is_scanned = True, False
         if words:
             device.filter = words[0]
         self.model.renewed(device.name)

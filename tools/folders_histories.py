@@ -29,7 +29,7 @@ class History:
     def is_joined(self):
         """Whether those with `all` are joined by edges among them, and each other one meets one of these."""
         alls = {name for name, words, _ in self.folders if words == "all"}
-        reached, size = {self.folders[0][0]} & alls, 0
+        reached, size = set(sorted(alls)[:1]), 0
         while size < len(reached):
             size = len(reached)
             reached |= {name for edge in self.edges if reached & set(edge) for name in edge if name in alls}
@@ -87,7 +87,9 @@ class Maker:
         self.more = 0
         steps = [["new", self.one(*self.names), mail, "inbox"] for mail in self.mails if self.chance(2)]
         if not self.chance(4):
-            steps += [["new", "A", self.mails[0], "inbox"]] + [["sync", *edge] for _ in range(2) for edge in self.edges]
+            steps += [["new", "A", self.mails[0], "inbox"]]
+            steps += [["copy", "A", self.mails[0], "inbox", self.folders[0]]] if self.chance(3) else []
+            steps += [["sync", *edge] for _ in range(2) for edge in self.edges]
         acts = numbers.randint(1, 3)
         for _ in range(numbers.randint(4, self.options.steps)):
             steps.append(self.act() if numbers.randrange(4) < acts else self.command())
@@ -154,7 +156,11 @@ class Maker:
 # ---- shrinking
 
 def shrunk(history, fails):
-    """A smaller history that fails likewise: without steps, folders that nothing names, filters, layouts and edges."""
+    """A smaller history that fails likewise: without folders, steps, filters, layouts and edges."""
+    for name, _, _ in history.folders:
+        less = without(history, name)
+        if less and fails(less):
+            history = less
     size = max(1, len(history.steps) // 2)
     while size:
         at = 0
@@ -175,15 +181,20 @@ def shrunk(history, fails):
     return history
 
 
+def without(history, name):
+    """A history without a folder and what is done there; others that met it meet one another. None where that is no history."""
+    met = [other for edge in history.edges if name in edge for other in edge if other != name]
+    edges = [edge for edge in history.edges if name not in edge] + [(met[0], other) for other in met[1:]]
+    less = History([folder for folder in history.folders if folder[0] != name], list(dict.fromkeys(edges)), [step for step in history.steps if name not in step[1:3]])
+    return less if len(less.folders) > 1 and any(words == "all" for _, words, _ in less.folders) and less.is_joined() else None
+
+
 def smaller(history):
     for at in range(len(history.steps)):
         yield History(history.folders, history.edges, history.steps[:at] + history.steps[at + 1 :])
     for at, (name, filter_words, layout) in enumerate(history.folders):
-        if not any(name in step[1:3] for step in history.steps) and len(history.folders) > 2 and at:
-            edges = [edge for edge in history.edges if name not in edge]
-            less = History(history.folders[:at] + history.folders[at + 1 :], edges, history.steps)
-            if less.is_joined():
-                yield less
+        if less := without(history, name):
+            yield less
         for simple in ((name, "all", layout), (name, filter_words, "dots")):
             if simple != history.folders[at]:
                 yield History(history.folders[:at] + [simple] + history.folders[at + 1 :], history.edges, history.steps)

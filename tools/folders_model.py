@@ -80,12 +80,14 @@ class Model:
     def begin(self, device):
         self.heard[device], self.told[device], self.carried[device], self.seen[device] = set(), set(), collections.defaultdict(set), {}
 
-    def changed(self, device, before, after):
-        """Takes what a user did in a folder, as it was listed behind one command and before the next."""
+    def changed(self, device, before, after, written=()):
+        """Takes what a user did in a folder, as it was listed behind one command and before the next; `written` are mails and folders of files
+        that were written in place meanwhile: such a mail isn't taken from its folder, whatever becomes of the file."""
         old, new, by_inode = views(before), views(after), {file.inode: file.mail for file in after}
         for mail in sorted(old.keys() | new.keys()):
             was, now = old.get(mail, NOWHERE), new.get(mail, NOWHERE)
-            written_over = {file.folder for file in before if file.mail == mail and by_inode.get(file.inode, mail) != mail} - now.folders
+            written_over = {file.folder for file in before if file.mail == mail and by_inode.get(file.inode, mail) != mail}
+            written_over = (written_over | {folder for other, folder in written if other == mail}) & was.folders - now.folders
             if written_over and not now.folders:
                 if not any(mail in seen for other, seen in self.seen.items() if other != device):
                     self.unsure.add(mail)

@@ -173,7 +173,7 @@ class Relay:
 class Device:
     def __init__(self, name, filter_words, layout, number):
         self.name, self.filter, self.layout, self.number = name, filter_words, layout, number
-        self.root, self.files, self.is_edited, self.is_scanned = name, [], False, False
+        self.root, self.files, self.is_edited, self.written = name, [], False, set()
 
     @property
     def has_all(self):
@@ -362,6 +362,7 @@ class Player:
             self.times[name].add(RECENT)
             if how == "inplace":
                 device.is_edited = True
+                device.written.add((mail, file.folder))
                 with open(file.path, "ab") as open_file:
                     open_file.write(text[len(body(mail)):])
                 os.utime(file.path, (RECENT, RECENT))

@@ -25,6 +25,11 @@ WRONG = (
 )
 
 
+def _number(kill_at):
+    """A number for a call at which an end is killed."""
+    return int(kill_at) if kill_at and kill_at.isdigit() else 0
+
+
 class Value:
     """How often each key, a delivery and an element, was raised, and how often it had been as the mail was deleted."""
 
@@ -123,7 +128,7 @@ class Reference(Player):
         return len(replica.known), len(replica.store), len(replica.push_outs)
 
     def run(self, word, *words, kill_at=None):
-        if word == "scan" and (kill_at is None or kill_at % 2):
+        if word == "scan" and (kill_at is None or _number(kill_at) % 2):
             self.scan(self.devices[words[0]])
         return End(0, "", "")
 
@@ -131,7 +136,7 @@ class Reference(Player):
         for device in (caller, server):
             self.scan(device, is_shown=False)
         is_whole = cut is None and kills == (None, None)
-        most = [None, None] if is_whole else [(cut or 7) % 3, ((cut or 7) // 3 + sum(at or 0 for at in kills)) % 3]
+        most = [None, None] if is_whole else [(cut or 7) % 3, ((cut or 7) // 3 + sum(_number(at) for at in kills)) % 3]
         self.pull(caller, server, most[0]), self.pull(server, caller, most[1])
         if is_whole:
             self.release(caller, server), self.release(server, caller)
