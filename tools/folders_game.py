@@ -4,6 +4,7 @@ import os
 import re
 import shutil
 import tempfile
+import threading
 
 import folders_play
 import folders_reference
@@ -12,7 +13,7 @@ from folders_play import DIGEST_NAME, NOWHERE, day, selects, views
 
 ROUNDS = 6
 ACTS = ("new", "fill", "clear", "flag", "move", "carry", "copy", "spread", "remove", "delete", "edit", "rename", "mkfolder")
-COMMANDS = {"scan": 1, "expire": 1, "renew": 1, "checkpoint": 1, "killscan": 1, "sync": 2, "cut": 2, "kill": 2}
+COMMANDS = {"race": 2, "scan": 1, "expire": 1, "renew": 1, "checkpoint": 1, "killscan": 1, "sync": 2, "cut": 2, "kill": 2}
 CLAIMS = ("holds", "quiet", "kept", "refuses", "items")
 
 
@@ -62,8 +63,9 @@ class Game:
         return end
 
     def scan(self, device, *words):
-        device.is_edited = False
-        return self.alone(device, "scan", *words)
+        end = self.alone(device, "scan", *words)
+        device.is_edited, device.has_begun = False, True
+        return end
 
     def killscan(self, device, at):
         self.note(device)
@@ -87,13 +89,19 @@ class Game:
         number = self.player.next_number
         self.player.next_number += 1
         self.alone(device, "renew", "--id", str(number), *(["--filter", words[0]] if words else []))
+        device.has_begun = False
         if words:
             device.filter = words[0]
         self.model.renewed(device.name)
 
-    def sync(self, caller, server, cut=None, kills=(None, None), is_whole=True):
+    def sync(self, caller, server, cut=None, kills=(None, None), is_whole=True, beside=None):
         self.note(caller), self.note(server)
+        if beside:
+            beside.start()
         ends = self.player.sync(caller, server, cut, kills)
+        if beside:
+            beside.join()
+            is_whole = not any("changed files meanwhile" in end.err for end in ends)
         name = f"sync {caller.name} {server.name}"
         if is_whole:
             for end, device in zip(ends, (caller, server)):
@@ -102,9 +110,10 @@ class Game:
         else:
             self.watched(name, *ends)
         is_whole = all(end.status == 0 for end in ends)
-        is_first = any("is told by the next sync" in end.err for end in ends)
+        is_first = not caller.has_begun
         for device in (caller, server):
             device.files = self.player.listed(device)
+            device.has_begun = device.has_begun or is_whole
         self.model.synced(caller, server, is_whole, is_first, {device.name: views(device.files) for device in (caller, server)})
 
     def cut(self, caller, server, most):
@@ -112,6 +121,23 @@ class Game:
 
     def kill(self, caller, server, who, at):
         self.sync(caller, server, kills=tuple(at if letter in who else None for letter in "cs"), is_whole=False)
+
+    def race(self, caller, server, wait, word, name, mail, *rest):
+        """A sync, so many milliseconds behind whose beginning a user does something."""
+        device, seen = self.device(name), []
+        past, told = set(self.model.carried[name][mail]), set(self.model.told[name])
+
+        def act():
+            seen.append(views(self.player.files_of(device, mail)).get(mail, NOWHERE))
+            try:
+                getattr(self.player, word)(device, mail, *rest)
+            except OSError:
+                pass  # the program moved it just then
+            seen.append(views(self.player.files_of(device, mail)).get(mail, NOWHERE))
+
+        self.sync(caller, server, beside=threading.Timer(int(wait) / 1000, act))
+        if seen[0] != seen[1]:
+            self.model.raced(name, mail, *seen, past, told)
 
     # -- what a scene claims
 

@@ -16,6 +16,10 @@ FILTERS = ("label:inbox", "label:inbox", "!label:play", "label:play", "label:wor
            "label:inbox | flag:flagged", "since:2001-01-01 & !label:play")
 
 
+# What users do during a sync.
+RACING = ("new", "flag", "move", "carry", "copy", "remove", "delete")
+
+
 @dataclasses.dataclass
 class History:
     folders: list
@@ -132,6 +136,11 @@ class Maker:
         one, other = numbers.choice(self.edges)
         if self.chance(2):
             one, other = other, one
+        if options.races and self.chance(4):
+            act = self.act()
+            while act[0] not in RACING or act[1] not in (one, other):
+                act = self.act()
+            return ["race", one, other, str(numbers.randint(0, 12)), *act]
         at = numbers.randrange(40)
         if at < 3:
             return ["scan", one]
@@ -212,6 +221,8 @@ def simpler(step):
     """A step that does a little less."""
     if step[0] in ("cut", "kill"):
         return ["sync", *step[1:3]]
+    if step[0] == "race":
+        return step[4:]
     if step[0] == "killscan":
         return ["scan", step[1]]
     if step[0] == "carry":

@@ -107,6 +107,8 @@ class Model:
         known = [other for other in self.acts if other.mail == mail and other.number in self.heard[device]]
         ever = frozenset().union(*(other.touches() for other in known))
         act.past, act.told, act.heard = frozenset(self.carried[device][mail]), frozenset(self.told[device]), frozenset(self.heard[device])
+        if was.folders == {"inbox"} < now.folders and any("inbox" in other.unset for other in known):
+            act.either |= {"inbox"}  # it may have stood there for want of a folder, and was put there now
         if not was.folders:
             act.anew = ever - act.set
         elif len(was.folders) >= MOST_SHOWN and was.folders != now.folders:
@@ -114,6 +116,14 @@ class Model:
         self.acts.append(act)
         self.heard[device].add(act.number), self.told[device].add(act.number)
         self.carried[device][mail].add(act.number)
+
+    def raced(self, device, mail, was, now, past, told):
+        """A user's act during a command: what it took away may stand for all that, if the program moved it at once."""
+        self.add(device, mail, was, now)
+        act = self.acts[-1]
+        act.past, act.told = frozenset(past), frozenset(told)
+        if not act.is_deletion:
+            act.either, act.unset = act.either | act.unset, frozenset()
 
     def synced(self, caller, server, is_whole, is_first, seen):
         """Two folders talked. `seen` is what each shows behind it; a first talk tells nothing of the caller's."""

@@ -174,6 +174,7 @@ class Device:
     def __init__(self, name, filter_words, layout, number):
         self.name, self.filter, self.layout, self.number = name, filter_words, layout, number
         self.root, self.files, self.is_edited, self.written = name, [], False, set()
+        self.has_begun = False  # whether a scan or a talk came to its end, so that a next talk tells what is here
 
     @property
     def has_all(self):
@@ -362,7 +363,8 @@ class Player:
             self.times[name].add(RECENT)
             if how == "inplace":
                 device.is_edited = True
-                device.written.add((mail, file.folder))
+                if file.inode in {known.inode for known in device.files}:  # else no program saw the file before
+                    device.written.add((mail, file.folder))
                 with open(file.path, "ab") as open_file:
                     open_file.write(text[len(body(mail)):])
                 os.utime(file.path, (RECENT, RECENT))

@@ -134,12 +134,15 @@ class Reference(Player):
 
     def sync(self, caller, server, cut=None, kills=(None, None), programs=None):
         for device in (caller, server):
-            self.scan(device, is_shown=False)
+            if device is server or device.has_begun:
+                self.scan(device, is_shown=False)
         is_whole = cut is None and kills == (None, None)
         most = [None, None] if is_whole else [(cut or 7) % 3, ((cut or 7) // 3 + sum(_number(at) for at in kills)) % 3]
         self.pull(caller, server, most[0]), self.pull(server, caller, most[1])
         if is_whole:
             self.release(caller, server), self.release(server, caller)
+        if not caller.has_begun:  # it first takes what the other has, and finds its own mail among that
+            self.scan(caller, is_shown=False)
         for device in (caller, server):
             self.settle(device)
             self.show(device)
