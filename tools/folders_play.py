@@ -206,7 +206,12 @@ class Player:
     def run(self, *words, kill_at=None):
         child = subprocess.Popen([self.program, *words], cwd=self.room, stdin=subprocess.DEVNULL, stdout=subprocess.PIPE, stderr=subprocess.PIPE,
                                  env=self.surroundings(kill_at))
-        out, err = child.communicate(timeout=60)
+        try:
+            out, err = child.communicate(timeout=60)
+        except subprocess.TimeoutExpired:
+            child.kill()
+            out, err = child.communicate()
+            err += b"no end after 60 s"
         return End(child.returncode, out.decode(errors="replace"), err.decode(errors="replace"))
 
     def surroundings(self, kill_at):
