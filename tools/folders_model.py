@@ -21,7 +21,7 @@ class Act:
     device: str
     set: frozenset = frozenset()
     unset: frozenset = frozenset()
-    either: frozenset = frozenset()  # changed, but not all files of the mail say how
+    either: frozenset = frozenset()  # may be changed: not all files of the mail say the same
     anew: frozenset = frozenset()  # what a put-back may say anew that it doesn't have
     beyond: frozenset = frozenset()  # folders that may have been set and not shown, as so many others were
     past: frozenset = frozenset()
@@ -173,7 +173,7 @@ class Model:
         acts = [act for act in self.acts if act.mail == mail]
         newest = [act for act in acts if not any(act.number in other.heard for other in acts)]
         if not shown.folders:
-            living = [act for act in newest if not act.is_deletion and not act.is_weak]
+            living = [act for act in newest if not act.is_deletion and not act.is_weak and act.set | act.unset]
             faults = [act for act in living if not self.excuse_nowhere(act, acts)]
             return [("nowhere", f"{mail} is nowhere, though {faults[0].device} changed it last")] if faults and mail not in self.unsure else []
         if not acts:

@@ -127,6 +127,11 @@ class Reference(Player):
         replica = self.replicas[device.name]
         return len(replica.known), len(replica.store), len(replica.push_outs)
 
+    def edit(self, device, mail, more, how):
+        """A file that was written in place is the store's too: the mail lacks its bytes, whatever becomes of its file."""
+        super().edit(device, mail, more, how)
+        self.replicas[device.name].lacking |= {mail for mail, _ in device.written}
+
     def run(self, word, *words, kill_at=None):
         if word == "scan" and (kill_at is None or _number(kill_at) % 2):
             self.scan(self.devices[words[0]])
