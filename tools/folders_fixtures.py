@@ -19,7 +19,7 @@ import tarfile
 from pathlib import Path
 
 import folders_play
-from folders_play import NOWHERE, RECENT, Player, home, listing, views
+from folders_play import NOWHERE, RECENT, Player, views
 
 FIXTURES = Path(__file__).resolve().parent / "fixtures"
 NAMES = ("all", "inbox")
@@ -230,12 +230,12 @@ def talk_with_the_old(version, new_program, old_program, room):
             for name in NAMES:
                 player.program = new_program if name == new_end else old_program
                 fixture.ran("moved", name), fixture.ran("scan", name)
-            before = {name: views(listing(os.path.join(place, name), player.devices[name].layout, player.names)) for name in NAMES}
+            before = {name: views(player.listed(player.devices[name])) for name in NAMES}
             programs = [new_program if name == new_end else old_program for name in (caller, server)]
             ends = player.sync(player.devices[caller], player.devices[server], programs=programs)
             fixture.expect(all(end.status != 0 for end in ends) and all("mailfold: " in end.err for end in ends),
                            f"{caller} calls {server}, {new_end} is new: {[(end.status, end.err.strip()[:150]) for end in ends]}")
-            after = {name: views(listing(os.path.join(place, name), player.devices[name].layout, player.names)) for name in NAMES}
+            after = {name: views(player.listed(player.devices[name])) for name in NAMES}
             fixture.expect(before == after, f"{caller} calls {server}, {new_end} is new: mail went or came")
             wrong += fixture.wrong
     return wrong

@@ -12,6 +12,7 @@ from folders_model import Model
 from folders_play import DIGEST_NAME, NOWHERE, day, selects, views
 
 ROUNDS = 6
+NOTHING = re.compile(r"^0 new, 0 changed, 0 deleted here; 0 shown, 0 removed", re.M)
 ACTS = ("new", "fill", "clear", "flag", "move", "carry", "copy", "spread", "remove", "delete", "edit", "rename", "mkfolder")
 COMMANDS = {"race": 2, "scan": 1, "expire": 1, "renew": 1, "checkpoint": 1, "killscan": 1, "sync": 2, "cut": 2, "kill": 2}
 CLAIMS = ("holds", "quiet", "kept", "refuses", "items")
@@ -28,7 +29,7 @@ class Game:
         self.player = folders_reference.Reference(room, program.split(":")[1]) if program.startswith("reference:") else folders_play.Player(program, room, killer)
         self.model, self.history = Model(), history
         self.killer, self.watches, self.commands = killer, watches, 0
-        self.is_at_rest, self.allowed = False, {0}
+        self.is_at_rest, self.allowed, self.looks_again = False, {0}, False
 
     # -- commands, and what users did before them
 
@@ -65,7 +66,16 @@ class Game:
     def scan(self, device, *words):
         end = self.alone(device, "scan", *words)
         device.is_edited, device.has_begun = False, True
+        self.again(device)
         return end
+
+    def again(self, device):
+        """A look at all files, behind a command that went by what was noted of them, has to find nothing to do."""
+        if self.looks_again and not device.is_edited:
+            end = self.player.run("scan", device.root, "--dry-run")
+            self.ended(f"scan {device.name} --dry-run", end)
+            if not NOTHING.search(end.out + end.err):
+                raise Fault("again", f"scan {device.name} --dry-run has something to do: {(end.out + end.err).strip()}")
 
     def killscan(self, device, at):
         self.note(device)
@@ -115,6 +125,8 @@ class Game:
             device.files = self.player.listed(device)
             device.has_begun = device.has_begun or is_whole
         self.model.synced(caller, server, is_whole, is_first, {device.name: views(device.files) for device in (caller, server)})
+        for device in (caller, server) if is_whole and not beside else ():
+            self.again(device)
 
     def cut(self, caller, server, most):
         self.sync(caller, server, cut=int(most), is_whole=False)
@@ -150,7 +162,7 @@ class Game:
     def quiet(self, device):
         """A scan has nothing to do."""
         end = self.scan(device)
-        if not re.search(r"^0 new, 0 changed, 0 deleted here; 0 shown, 0 removed", end.out + end.err, re.M):
+        if not NOTHING.search(end.out + end.err):
             raise Fault("quiet", f"scan {device.name} tells, though nothing was done: {(end.out + end.err).strip()}")
 
     def refuses(self, device, text):
@@ -274,11 +286,12 @@ class Game:
                     raise Fault("verify", f"verify {device.name}: {(end.out + end.err).strip()}")
 
 
-def played(program, history, killer=None, watches=None):
+def played(program, history, killer=None, watches=None, looks_again=False):
     """Plays a history in a new room: what is wrong, and the game."""
     room = tempfile.mkdtemp(prefix="try-folders-", dir=folders_play.ROOM)
     try:
         game = Game(program, history, room, killer, watches)
+        game.looks_again = looks_again
         return game.play(), game
     finally:
         shutil.rmtree(room, ignore_errors=True)

@@ -101,7 +101,8 @@ class Model:
     def add(self, device, mail, was, now, either=frozenset(), is_weak=False):
         before, behind = was.folders | set(was.flags), now.folders | set(now.flags)
         is_deletion = not now.folders
-        act = Act(len(self.acts), mail, device, frozenset(behind - before), frozenset(before - behind - either), frozenset(either), is_deletion=is_deletion, is_weak=is_weak)
+        act = Act(len(self.acts), mail, device, frozenset(behind - before), frozenset(before - behind - either), frozenset(either))
+        act.is_deletion, act.is_weak = is_deletion, is_weak
         if is_deletion:
             act.unset = frozenset(was.folders)
         known = [other for other in self.acts if other.mail == mail and other.number in self.heard[device]]

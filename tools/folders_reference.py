@@ -243,7 +243,8 @@ class Reference(Player):
             value, day = self.together(counted)
             if mail in self.replicas[device.name].lacking:
                 continue
-            due = [item for item in sorted(items) if any(self.versions[version].value.view(self.wrong) != value.view(self.wrong) or self.versions[version].day != day for version in items[item])]
+            shows = (value.view(self.wrong), day)
+            due = [item for item in sorted(items) if any((self.versions[version].value.view(self.wrong), self.versions[version].day) != shows for version in items[item])]
             for item in due[:1] if self.wrong == "tells_the_first_item_alone" else due:
                 self.issue(device, item, mail, value, day)
 
