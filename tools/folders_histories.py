@@ -1,9 +1,39 @@
 """Histories of folders as text, at random, and shrunk: for tools/try-folders.
 
-  folder NAME FILTER LAYOUT     a folder, with its filter and layout
-  edge NAME NAME                these two sync with one another
-  # ..                          nothing
-  STEP                          anything else: an act, a command or a claim, as `move A m1 inbox play`, `sync A B` or `holds A m1 play F`
+  folder NAME FILTER LAYOUT           a folder, with its filter and layout; the first ones have the ids 0, 1, ..
+  edge NAME NAME                      these two sync with one another, at the end too
+  # ..                                nothing
+
+A mail is `m1`, `o1` or `u1`: of 2020, of 1999, without a Date; `m1+2` is what an edit made of m1. `*` is the first folder in which it stands. Acts:
+
+  new A m1 inbox [FLAGS|-] [old]      delivers it, into `new` where it has no flags; `old` is the time of a file of 1999
+  flag A m1 +F-S [FOLDER]             of all its files, or of one
+  move A m1 inbox play [+S]           by a rename; carry A m1 inbox play: by a new file
+  copy A m1 inbox play                into one more folder; spread A m1 3 12: into g03 to g11
+  remove A m1 play, delete A m1       from one folder, from all
+  edit A m1 2 inplace|fresh|over      it becomes m1+2: in place, by a new file under another name or over the same name
+  rename A play Trash, mkfolder A Sent
+  fill A m 30 inbox, clear A m 30     delivers, deletes m0 to m29
+
+Commands:
+
+  scan A [WORDS], expire A, renew A [FILTER], checkpoint A
+  sync A B                            A begins it
+  cut A B 300                         the line is cut behind so many bytes
+  kill A B c|s|cs 12                  the caller, the server or both are killed in place of their 12th call that changes something
+  kill A B s gone                     .. of the first that takes a name from a folder of mail
+  killscan A 12                       the same of a scan
+  race A B 5 ACT                      a user acts 5 ms behind the beginning of a sync
+  rest                                syncs until nothing is told, and looks at all; a history that doesn't end so does it at its end
+  allows 7                            commands may end with this status from here on
+
+Claims of scenes:
+
+  holds A m1 inbox,play FS            it stands there with these flags; `-`: nowhere
+  quiet A                             a scan has nothing to do
+  kept A m1                           its bytes are somewhere below the folder
+  refuses A TEXT                      a scan isn't done, with a text
+  items A 200                         the log of A tells of so many items
 """
 
 import dataclasses
@@ -16,6 +46,8 @@ FILTERS = ("label:inbox", "label:inbox", "!label:play", "label:play", "label:wor
            "label:inbox | flag:flagged", "since:2001-01-01 & !label:play")
 
 
+# How many acts there are to choose of, the usual ones several times.
+ACTS = 40
 # What users do during a sync.
 RACING = ("new", "flag", "move", "carry", "copy", "remove", "delete")
 
@@ -95,16 +127,22 @@ class Maker:
             steps += [["copy", "A", self.mails[0], "inbox", self.folders[0]]] if self.chance(3) else []
             steps += [["sync", *edge] for _ in range(2) for edge in self.edges]
         acts = numbers.randint(1, 3)
-        for _ in range(numbers.randint(4, self.options.steps)):
-            steps.append(self.act() if numbers.randrange(4) < acts else self.command())
+        wanted = len(steps) + numbers.randint(4, self.options.steps)
+        while len(steps) < wanted:
+            steps += self.both() if self.chance(6) else [self.act() if numbers.randrange(4) < acts else self.command()]
         return History(folders, self.edges, steps)
 
-    def act(self):
+    def both(self):
+        """Two users change one mail at once, half of the time likewise, and their folders meet."""
+        edge, mail, at = self.one(*self.edges), self.one(*self.mails), self.random.randrange(ACTS)
+        return [self.act(device, mail, at if self.chance(2) else None) for device in edge] + [["sync", *edge]]
+
+    def act(self, device=None, mail=None, at=None):
         numbers = self.random
-        device, mail = numbers.choice(self.names), numbers.choice(self.mails)
+        device, mail = device or numbers.choice(self.names), mail or numbers.choice(self.mails)
+        at = numbers.randrange(ACTS) if at is None else at
         folder, target, flag = numbers.choice(self.folders), numbers.choice(self.folders), numbers.choice(self.flags)
         source = self.one("*", "*", "inbox", folder)
-        at = numbers.randrange(40)
         if at < 7:
             how = ["S" if self.chance(3) else "-"] + (["old"] if mail[0] == "u" and self.chance(2) else [])
             return ["new", device, mail, folder if self.chance(3) else "inbox", *how]
