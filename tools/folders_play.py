@@ -303,7 +303,8 @@ class Player:
         os.rename(place, os.path.join(self.part(device, folder, "new" if flags is None else "cur"), name))
 
     def new(self, device, mail, folder, flags="-", how=""):
-        if folder in {file.folder for file in self.files_of(device, mail)}:
+        there = {file.folder for file in self.files_of(device, mail)}
+        if folder in there or len(there) >= 16:
             return
         time = EARLY if how == "old" else RECENT
         self.times[mail].add(time)
