@@ -119,7 +119,7 @@ class Maker:
         self.mails = [f"{kind}{number}" for number, kind in enumerate(numbers.choices("mmmmou", k=self.one(1, 1, 2, 2, 3)), 1)]
         self.folders = numbers.sample(FOLDERS[1:], 2) + ["inbox", "inbox"]
         self.flags = numbers.choices(FLAGS, k=2)
-        self.spreads = self.chance(20)
+        self.spreads = self.chance(12)
         self.more = 0
         steps = [["new", self.one(*self.names), mail, "inbox"] for mail in self.mails if self.chance(2)]
         if not self.chance(4):
@@ -143,6 +143,9 @@ class Maker:
         at = numbers.randrange(ACTS) if at is None else at
         folder, target, flag = numbers.choice(self.folders), numbers.choice(self.folders), numbers.choice(self.flags)
         source = self.one("*", "*", "inbox", folder)
+        if self.spreads and (at >= 38 or 23 <= at < 28):
+            first = numbers.randrange(12)
+            return ["spread", device, mail, str(first), str(first + numbers.randint(4, 14))]
         if at < 7:
             how = ["S" if self.chance(3) else "-"] + (["old"] if mail[0] == "u" and self.chance(2) else [])
             return ["new", device, mail, folder if self.chance(3) else "inbox", *how]
@@ -164,9 +167,6 @@ class Maker:
             self.more += 1
             self.mails.append(f"{mail}+{self.more}")
             return ["edit", device, mail, str(self.more), self.one("inplace", "fresh", "over")]
-        if self.spreads:
-            first = numbers.randrange(12)
-            return ["spread", device, mail, str(first), str(first + numbers.randint(4, 14))]
         return ["rename", device, *numbers.sample(FOLDERS[1:], 2)]
 
     def command(self):

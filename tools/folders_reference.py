@@ -16,10 +16,7 @@ WRONG = (
     "shows_by_the_first_head",
     "a_deletion_beats_a_change",
     "leaves_no_folder",
-    "joins_without_push_outs",
-    "tells_the_first_item_alone",
     "a_put_back_says_nothing_anew",
-    "an_edit_leaves_the_folders_beyond",
     "one_row_for_all_deliveries",
     "forgets_a_flag",
 )
@@ -81,8 +78,7 @@ class Value:
             for folder in wanted.folders:
                 if folder not in had or folder in beyond:
                     out.lift((delivery, folder))
-            kept = beyond if wrong == "an_edit_leaves_the_folders_beyond" else set()
-            out.take(had - wanted.folders - kept)
+            out.take(had - wanted.folders)
         for flag in set(wanted.flags) - flags:
             if not (wrong == "forgets_a_flag" and flag == "R"):
                 out.lift((delivery, flag))
@@ -161,8 +157,7 @@ class Reference(Player):
         for version in sorted(replica.store) + sorted(replica.push_outs):
             if self.versions[version].mail == mail:
                 items.setdefault(self.versions[version].item, []).append(version)
-                if version in replica.store or self.wrong != "joins_without_push_outs" or not counted:
-                    counted.append(version)
+                counted.append(version)
         for item, held in items.items():
             own = replica.own_last.get(item)
             if own is not None and not any(version == own or own in self.versions[version].below for version in held):
@@ -245,7 +240,7 @@ class Reference(Player):
                 continue
             shows = (value.view(self.wrong), day)
             due = [item for item in sorted(items) if any((self.versions[version].value.view(self.wrong), self.versions[version].day) != shows for version in items[item])]
-            for item in due[:1] if self.wrong == "tells_the_first_item_alone" else due:
+            for item in due:
                 self.issue(device, item, mail, value, day)
 
     def show(self, device):
