@@ -1,5 +1,5 @@
 //! The words of the command line.
-use crate::help;
+use crate::{build, help};
 use clap::builder::ValueParser;
 use clap::{Arg, ArgAction, ArgMatches, Command, Error};
 use mr_filter::{Filter, FilterFault};
@@ -327,7 +327,7 @@ fn folders_of<'a>(alloc: Global, words: &ArgMatches<'a>) -> Result<Vec<&'a str>,
 fn mailfold<'a>(alloc: Global) -> Result<Command<'a>, AllocError> {
     let command = Command::new(alloc, "mailfold")
         .bin_name("mailfold")?
-        .version("0.1.0")
+        .version(build::VERSION)
         .about(help::SHORT_ABOUT)
         .long_about(help::ABOUT)
         .after_long_help(help::AFTER)

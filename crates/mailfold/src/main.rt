@@ -12,6 +12,7 @@ mod advice;
 mod after;
 mod audit;
 mod before;
+mod build;
 mod command_line;
 mod counting;
 mod edited;

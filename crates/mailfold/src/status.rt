@@ -1,4 +1,5 @@
 //! `status`: how a folder stands.
+use crate::build::BUILD_LINE;
 use crate::edited::tell_edited;
 use crate::ending::Ending;
 use crate::fault::Fault;
@@ -87,6 +88,7 @@ fn short_text(
 
 fn long_text<R>(alloc: Global, folder: &OpenFolder<R>, plan: &str) -> Result<String, AllocError> {
     let mut text = replica_text(alloc, folder.kept.replica())?;
+    text.push_str(BUILD_LINE)?;
     text.push_str(format!(in alloc; "a scan would do: {plan}\n")?.as_str())?;
     text.push_str(meetings_text(alloc, &folder.meetings)?.as_str())?;
     Ok(text)

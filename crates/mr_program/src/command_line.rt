@@ -1,4 +1,5 @@
 //! The words of the command line, and the help.
+use crate::build::VERSION;
 use clap::builder::ValueParser;
 use clap::{Arg, ArgAction, ArgMatches, Command, Error};
 use std::alloc::{AllocError, Global};
@@ -393,7 +394,7 @@ fn frame_command<'a>(alloc: Global) -> Result<Command<'a>, AllocError> {
 fn mailrep<'a>(alloc: Global) -> Result<Command<'a>, AllocError> {
     Command::new(alloc, "mailrep")
         .bin_name("mailrep")?
-        .version("0.1.0")
+        .version(VERSION)
         .about("Replicas of a mail collection, driven by scripts")
         .long_about(ABOUT)
         .after_long_help(AFTER)

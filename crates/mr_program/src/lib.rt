@@ -15,6 +15,7 @@
 ghost use Rattle.std.specs.Prelude.{◌≡◌, true};
 ghost use Rattle.mr_program.specs.Ending.{is_status};
 
+mod build;
 mod command_line;
 mod draw;
 mod ending;
