@@ -297,14 +297,14 @@ def answer_help_of_help(program, words):
 
 # ---- what a command needs
 
-def check_script(name, wants_hints):
-    """A script can be opened, and is no folder."""
+def check_script(name, is_drawn, wants_hints):
+    """A script can be opened, and is no folder; but a folder is drawn, as a picture of that fault."""
     try:
-        if os.path.isdir(name):
+        if os.path.isdir(name) and not is_drawn:
             reason = "it is a folder"
         else:
-            with open(name, "rb"):
-                return
+            os.close(os.open(name, os.O_RDONLY))
+            return
     except OSError as error:
         reasons = {errno.EACCES: "it may not be read", errno.ENOENT: "there is no such file", errno.ENOTDIR: "there is no such file"}
         reason = reasons.get(error.errno, "it can't be read")
@@ -383,7 +383,7 @@ def answer(program, folder, words):
     if program == "mailfold":
         check_mailfold(program, name, reading)
     elif name in SCRIPTED and reading.given and reading.given[0] != "-":
-        check_script(reading.given[0], any(it.long == "hints" for it in reading.used if isinstance(it, Option)))
+        check_script(reading.given[0], name == "draw", any(it.long == "hints" for it in reading.used if isinstance(it, Option)))
 
 
 def main():
