@@ -1,0 +1,3 @@
+pub mod HeldLemmas
+pub mod ChangingLemmas
+pub mod ActLemmas

@@ -1,0 +1,9 @@
+pub mod Keys
+pub mod Marks
+pub mod Heads
+pub mod LabelLemmas
+pub mod ViewLemmas
+pub mod ShownLemmas
+pub mod EditedLemmas
+pub mod EditLaws
+pub mod Values

@@ -1,0 +1,13 @@
+pub mod Count
+pub mod Word
+pub mod Element
+pub mod Order
+pub mod Says
+pub mod Value
+pub mod Labels
+pub mod View
+pub mod Shown
+pub mod Edited
+pub mod Limits
+pub mod Rows
+pub mod inner
