@@ -42,14 +42,14 @@ parts_lack q (x ∷ xs) =
       | false ↦ λ fails. onto_pass (λ b. not (q b)) x (slice_split q xs) (ap not fails) (parts_lack q xs)
     ] refl
 
-cut_in_front : (c : ℕ) (part : List ℕ) (rest : List ℕ) → list_all (λ b. not (b == c)) part ≡ true → cut_at c (part ++ c ∷ rest) ≡ part ∷ cut_at c rest
+pub cut_in_front : (c : ℕ) (part : List ℕ) (rest : List ℕ) → list_all (λ b. not (b == c)) part ≡ true → cut_at c (part ++ c ∷ rest) ≡ part ∷ cut_at c rest
 cut_in_front c [] rest lacks = ap (λ t. cond t ([] ∷ cut_at c rest) (onto_first c (cut_at c rest))) (eq-eqb c c refl)
 cut_in_front c (x ∷ part) rest lacks =
     let two = and_parts (not (x == c)) (list_all (λ b. not (b == c)) part) lacks in
     ap (λ t. cond t ([] ∷ cut_at c (part ++ c ∷ rest)) (onto_first x (cut_at c (part ++ c ∷ rest)))) (not-true (x == c) two.0)
     ∙ ap (onto_first x) (cut_in_front c part rest two.1)
 
-uncut : (c : ℕ) (part : List ℕ) → list_all (λ b. not (b == c)) part ≡ true → cut_at c part ≡ part ∷ []
+pub uncut : (c : ℕ) (part : List ℕ) → list_all (λ b. not (b == c)) part ≡ true → cut_at c part ≡ part ∷ []
 uncut c [] lacks = refl
 uncut c (x ∷ part) lacks =
     let two = and_parts (not (x == c)) (list_all (λ b. not (b == c)) part) lacks in
@@ -67,7 +67,7 @@ onto_some : (x : ℕ) (parts : List (List ℕ)) → 0 < length (onto_first x par
 onto_some x [] = omega arith
 onto_some x (part ∷ parts) = omega arith
 
-split_some : (q : ℕ → Bool) (xs : List ℕ) → 0 < length (slice_split q xs)
+pub split_some : (q : ℕ → Bool) (xs : List ℕ) → 0 < length (slice_split q xs)
 split_some q [] = omega arith
 split_some q (x ∷ xs) =
     elim (q x) as (λ t. 0 < length (cond t ([] ∷ slice_split q xs) (onto_first x (slice_split q xs)))) [

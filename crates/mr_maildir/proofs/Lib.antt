@@ -9,6 +9,9 @@ pub mod ActLemmas
 pub mod FolderLemmas
 pub mod ToldLemmas
 pub mod ReferenceLemmas
+pub mod CountsLemmas
+pub mod LinesLemmas
+pub mod MailTextLemmas
 pub mod PlanLemmas
 pub mod MomentLemmas
 pub mod LayoutLemmas

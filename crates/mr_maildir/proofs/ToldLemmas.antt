@@ -80,7 +80,7 @@ cut-some text r cases = go r (split_parts 10 text r cases (lit< tt))
 
 -- ---- a line in front
 
-one_line-append : (a b : List ℕ) → is_one_line a ≡ true → is_one_line b ≡ true → is_one_line (a ++ b) ≡ true
+pub one_line-append : (a b : List ℕ) → is_one_line a ≡ true → is_one_line b ≡ true → is_one_line (a ++ b) ≡ true
 one_line-append [] b one two = two
 one_line-append (x ∷ a) b one two =
     let parts = and_parts (not (x == 10)) (is_one_line a) one in
@@ -118,15 +118,15 @@ one_line_from p without text all = implied p (λ b. not (b == 10)) other text al
         ] refl
 
 -- a safe name, a safe folder's name and a label are one line
-name-one_line : (name : List ℕ) → is_safe_name name ≡ true → is_one_line name ≡ true
+pub name-one_line : (name : List ℕ) → is_safe_name name ≡ true → is_one_line name ≡ true
 name-one_line name safe = one_line_from is_safe_byte refl name (and_parts (nat_le 1 (length name) && nat_le (length name) 200 && not (slice_index name 0 == 46)) (list_all is_safe_byte name) safe).1
 
-folder-one_line : (name : List ℕ) → is_safe_folder name ≡ true → is_one_line name ≡ true
+pub folder-one_line : (name : List ℕ) → is_safe_folder name ≡ true → is_one_line name ≡ true
 folder-one_line name safe =
     let bytes = (and_parts (nat_le 1 (length name) && nat_le (length name) 200 && not (slice_index name 0 == 46) && list_all is_path_byte name) (not (text_eq name (codes "mailfold"))) safe).0 in
     one_line_from is_path_byte refl name (and_parts (nat_le 1 (length name) && nat_le (length name) 200 && not (slice_index name 0 == 46)) (list_all is_path_byte name) bytes).1
 
-key-one_line : (label : List ℕ) → is_label label ≡ true → is_one_line (folder_key label) ≡ true
+pub key-one_line : (label : List ℕ) → is_label label ≡ true → is_one_line (folder_key label) ≡ true
 key-one_line label is =
     let one = one_line_from is_label_byte refl label (and_parts (nat_le 1 (length label) && nat_le (length label) 32) (list_all is_label_byte label) is).1 in
     one_line-append (codes "folder ") (label ++ 32 ∷ []) refl (one_line-append label (32 ∷ []) one refl)

@@ -4,6 +4,9 @@ pub mod Path
 pub mod Folder
 pub mod Told
 pub mod Reference
+pub mod Counts
+pub mod Lines
+pub mod MailText
 pub mod View
 pub mod File
 pub mod FileActs
@@ -15,4 +18,5 @@ pub mod Act
 pub mod Policy
 pub mod Rows
 pub mod FileRows
+pub mod MailTextRows
 pub mod inner

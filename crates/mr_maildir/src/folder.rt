@@ -112,7 +112,7 @@ pub(crate) fn is_part_name(name: &str) -> bool
 }
 
 /// Whether the folder of this name has the name as its label.
-fn is_plain(name: &str) -> bool
+pub(crate) fn is_plain(name: &str) -> bool
     ensures { result ≡ specs.is_plain name.now }
 {
     Label::admits(name) && !is_kept(name)

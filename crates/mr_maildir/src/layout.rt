@@ -229,7 +229,7 @@ fn is_dotted(name: &str) -> bool
 }
 
 /// Whether the byte is none of these.
-fn lacks(bytes: &[u8], byte: u8) -> bool
+pub(crate) fn lacks(bytes: &[u8], byte: u8) -> bool
     ensures { result ≡ list_all (λ b. not (b == byte)) bytes.now }
 {
     bytes.iter().all(|b| *b != byte)

@@ -15,6 +15,7 @@
 #![tactic(auto)]
 
 mod act;
+mod counts;
 mod file;
 mod folder;
 mod header;
@@ -22,7 +23,9 @@ mod heads;
 mod info;
 mod layout;
 mod letters;
+mod lines;
 mod listing;
+mod mail_text;
 mod merging;
 mod name;
 mod plan;
@@ -38,7 +41,9 @@ pub use header::{HEADER_BYTES, Header, MAX_MESSAGE_ID_BYTES, read_header};
 pub use heads::{is_merge_due, shown};
 pub use layout::Layout;
 pub use letters::{flags_of, letter_of, letters_with};
+pub use lines::{FolderName, MailLines};
 pub use listing::{list_line, printable};
+pub use mail_text::MailText;
 pub use merging::merged;
 pub use name::{FileName, is_safe_name, read_name, unique_for};
 pub use plan::{FileAct, FileFault, file_acts};

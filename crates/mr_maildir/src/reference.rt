@@ -29,9 +29,9 @@ pub struct MailReference<'a> {
 const OPENING: &str = "mail 1\n";
 
 /// What the lines of the digest and of the size begin with.
-const DIGEST_KEY: &str = "sha256 ";
+pub(crate) const DIGEST_KEY: &str = "sha256 ";
 
-const SIZE_KEY: &str = "size ";
+pub(crate) const SIZE_KEY: &str = "size ";
 
 impl MailReference<'_> {
     /// The reference as a message's body.
@@ -49,7 +49,7 @@ impl MailReference<'_> {
 }
 
 /// Appends a line of a key and a value.
-fn push_line(text: &mut String, key: &str, value: &str) -> Result<(), AllocError>
+pub(crate) fn push_line(text: &mut String, key: &str, value: &str) -> Result<(), AllocError>
     ensures { OnOk result (string_bytes text.new ≡ string_bytes text.old ++ (key.now ++ (value.now ++ 10 ∷ []))) }
 {
     text.push_str(key)?;
@@ -99,7 +99,7 @@ fn read_line<'a>(text: &'a str, key: &str) -> Option<(&'a str, &'a str)>
 }
 
 /// The digest on the first line, and what follows.
-fn read_digest_line(text: &str) -> Option<([u8; 32], &str)>
+pub(crate) fn read_digest_line(text: &str) -> Option<([u8; 32], &str)>
     ensures is { IfSome result (λ p. IsDigest p.0) }
     ensures written { IfSome result (λ p. text.now ≡ digest_line p.0 p.1.now) }
     ensures whole { (digest rest : List ℕ) → IsDigest digest → text.now ≡ digest_line digest rest
@@ -111,7 +111,7 @@ fn read_digest_line(text: &str) -> Option<([u8; 32], &str)>
 }
 
 /// The size on the first line, and what follows.
-fn read_size_line(text: &str) -> Option<(u64, &str)>
+pub(crate) fn read_size_line(text: &str) -> Option<(u64, &str)>
     ensures is { IfSome result (λ p. p.0 < 2 ^ 64) }
     ensures written { IfSome result (λ p. text.now ≡ size_line p.0 p.1.now) }
     ensures whole { (size : ℕ) (rest : List ℕ) → size < 2 ^ 64 → text.now ≡ size_line size rest

@@ -1,0 +1,6 @@
+use Rattle.std.proofs.Common.{◌≡◌, ◌++◌, drop}
+use Rattle.mr_maildir.specs.Telling.{own_marks}
+use Rattle.mr_maildir.proofs.telling.push_own.Given as goal
+
+abbrev pub invariant-loop-mark : goal.invariant-loop-mark
+invariant-loop-mark l = l.told.items ++ own_marks l.own (drop l.mark-index l.marks) ≡ l.fn.told.items ++ own_marks l.own l.marks
