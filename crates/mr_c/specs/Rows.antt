@@ -9,7 +9,7 @@ use Rattle.mr_desk.specs.Notes.{TakesNote}
 use Rattle.mr_desk.specs.declared.call.Call.TheVariants.{Pull}
 use Rattle.mr_desk.specs.declared.call.VersionNumbers.{VersionNumbers}
 use Rattle.mr_desk.specs.declared.device.Device.{Device}
-use Rattle.mr_outbox.specs.declared.act.Act.TheVariants as act
+use Rattle.mr_hosted.specs.declared.act.Act.TheVariants as act
 use Rattle.mr_replica.specs.declared.event.Reply.TheVariants as reply
 use Rattle.mr_desk.specs.declared.fault.Fault.TheVariants as fault
 use Rattle.mr_desk.specs.declared.reply.Told.TheVariants.{Issued, Done, Asked, Known}

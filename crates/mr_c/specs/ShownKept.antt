@@ -1,7 +1,7 @@
 -- what the host of a kept device does, and what it is handed out
 use Rattle.std.specs.Prelude.{◌==◌, not, ℕ, Bool, List, length, Option, Result, Ok, Err}
-use Rattle.mr_outbox.specs.declared.act.Act.{Act}
-use Rattle.mr_outbox.specs.declared.act.Act.TheVariants.{Write, Cut, Sync}
+use Rattle.mr_hosted.specs.declared.act.Act.{Act}
+use Rattle.mr_hosted.specs.declared.act.Act.TheVariants.{Write, Cut, Sync}
 use Rattle.mr_replica.specs.declared.event.Reply.{Reply}
 use Rattle.mr_replica.specs.declared.event.Reply.TheVariants.{Issued, Asked, Gave, Vouched}
 use Rattle.mr_desk.specs.Device.{acts_of, replies_of}

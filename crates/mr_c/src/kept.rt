@@ -10,7 +10,7 @@ use crate::failure::{Failure, code_of};
 use crate::given::{at_place, fill_built, fill_found, give};
 use crate::handle::{Handle, act, read};
 use mr_desk::{Device, VersionNumbers, frame_by};
-use mr_outbox::Act;
+use mr_hosted::Act;
 use mr_replica::Reply;
 use std::alloc::Global;
 

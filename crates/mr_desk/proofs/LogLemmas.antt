@@ -1,14 +1,11 @@
 -- a log is read event by event
-use Rattle.std.proofs.Common.{◌≡◌, ◌<◌, ◌≤◌, ◌+◌, ◌++◌, ◌∷◌, [], ℕ, List, length, take, drop, All, Err, refl, sym, ap, ◌∙◌, arith, length-append, append_assoc, append-nil}
+use Rattle.std.proofs.Common.{◌≡◌, ◌++◌, ◌∷◌, [], ℕ, List, take, drop, All, refl, sym, ap, ◌∙◌, append_assoc}
 use Rattle.mr_desk.proofs.Names.{flat_map, flat_map_more, take-append-drop}
-use Rattle.std.proofs.lemmas.List.Elements.{All-nil, All-push}
-use Rattle.mr_wire.specs.Spelling.{u32}
-use Rattle.mr_entry.specs.Decoding.{event_decoded}
+use Rattle.std.proofs.lemmas.List.Elements.{All-push}
 use Rattle.mr_entry.specs.Grammar.{SpellsEvent}
-use Rattle.mr_entry.specs.Spelling.{rest_bytes, event_bytes}
-use Rattle.mr_entry.specs.declared.event.fault.EventFault.{EventFault}
+use Rattle.mr_entry.specs.Spelling.{event_bytes}
 use Rattle.mr_replica.specs.declared.event.Event.{Event}
-use Rattle.mr_desk.specs.Log.{HasBytes, SpellsLog, StopsIn}
+use Rattle.mr_desk.specs.Log.{HasBytes}
 
 -- The bytes are those of the events so far, and the rest.
 pub record ReadSoFar (bytes : List ℕ) (events : List Event) (rest : List ℕ) : Type 0 where

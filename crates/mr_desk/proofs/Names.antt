@@ -2,9 +2,9 @@
 pub use Rattle.mr_desk.specs.Asked.{IsEventOf, NeedsMemory, call_fault}
 pub use Rattle.mr_desk.specs.Desk.{DeskState}
 pub use Rattle.mr_desk.specs.Draft.{draft_fault, labels_of, parts_of}
-pub use Rattle.mr_desk.specs.Fault.{Reads, of_hosted, of_kept, of_message, of_wire}
+pub use Rattle.mr_desk.specs.Fault.{Reads, of_kept, of_message, of_wire}
 pub use Rattle.mr_desk.specs.Frames.{BeginsFrame, IsFrameIn, any_frame, frame_fault, only_ask, only_receipt}
-pub use Rattle.mr_desk.specs.Kept.{Gives, KeptAnswers, KeptMerges, Refuses, Stays, TakesMeant, inside}
+pub use Rattle.mr_desk.specs.Kept.{KeptAnswers, KeptCommits, KeptMerges, Refuses, Stays, TakesMeant, inside}
 pub use Rattle.mr_desk.specs.KeptOpening.{AreGiven}
 pub use Rattle.mr_desk.specs.Merge.{IsEditOver, IsMergeIn, IsMergeOf, IsTogether, edit_fault_over, heads_of, last_under, merge_fault, merge_fault_in, said_by}
 pub use Rattle.mr_desk.specs.Merge.{said_together, unmerged}
@@ -17,12 +17,13 @@ pub use Rattle.mr_desk.specs.declared.fault.Fault.TheVariants.{BadLength, BytesB
 pub use Rattle.mr_desk.specs.declared.fault.Fault.TheVariants.{OtherDevice, OtherFrame, OutOfMemory, Peer, Refused, Replay, TooLarge, Unsettled, Version}
 pub use Rattle.mr_desk.specs.declared.fault.Fault.TheVariants.{Wire}
 pub use Rattle.mr_feed.specs.declared.entry.Entry.{Entry}
-pub use Rattle.mr_hosted.specs.Hosted.{IsUnhanded, SameHost, is_settled, journaled_of, may_show}
+pub use Rattle.mr_hosted.specs.Commit.{HostCommits}
+pub use Rattle.mr_hosted.specs.Hosted.{SameHost, journaled_of, may_show}
 pub use Rattle.mr_hosted.specs.declared.hosted.Hosted.{Hosted}
 pub use Rattle.mr_itemset.specs.Normal.{Normal}
 pub use Rattle.mr_itemset.specs.Sparing.{sparing_form}
-pub use Rattle.mr_kept.specs.Answered.{Answered, IsUnnoted, reply_by}
-pub use Rattle.mr_kept.specs.Kept.{AtOnce, Later, SameJournal, journal_of, leaving}
+pub use Rattle.mr_kept.specs.Answered.{Answered, IsUnnoted}
+pub use Rattle.mr_kept.specs.Kept.{AtOnce, SameJournal, journal_of, leaving}
 pub use Rattle.mr_madewith.specs.Revision.{Rev}
 pub use Rattle.mr_maildir.specs.Policy.{have_one_content, view_of}
 pub use Rattle.mr_replica.specs.Refusal.{◌orelse◌}

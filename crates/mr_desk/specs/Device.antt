@@ -4,11 +4,10 @@ use Rattle.std.specs.Borrow.{Bor}
 use Rattle.mr_itemset.specs.Normal.{Normal}
 use Rattle.mr_entry.specs.Note.{NoteParts}
 use Rattle.mr_hosted.specs.Hosted.{Settled, acts_left, handed_out, is_settled, may_show}
-use Rattle.mr_outbox.specs.declared.act.Act.{Act}
+use Rattle.mr_hosted.specs.declared.act.Act.{Act}
 use Rattle.mr_replica.specs.State.{State}
 use Rattle.mr_replica.specs.declared.event.Reply.{Reply}
-use Rattle.mr_desk.specs.Kept.{KeptAnswers, KeptMerges, inside}
-use Rattle.mr_desk.specs.KeptCommit.{KeptCommits}
+use Rattle.mr_desk.specs.Kept.{KeptAnswers, KeptCommits, KeptMerges, inside}
 use Rattle.mr_desk.specs.Serves.{Answers, Merges}
 use Rattle.mr_desk.specs.declared.call.Call.{Call}
 use Rattle.mr_desk.specs.declared.call.VersionNumbers.{VersionNumbers}

@@ -14,8 +14,6 @@ use Rattle.mr_kept.specs.declared.fault.KeptFault.{KeptFault}
 use Rattle.mr_kept.specs.declared.fault.KeptFault.TheVariants as kept
 use Rattle.mr_kept.specs.declared.fault.OpenFault.{OpenFault}
 use Rattle.mr_kept.specs.declared.fault.OpenFault.TheVariants as opens
-use Rattle.mr_hosted.specs.declared.fault.HostedFault.{HostedFault}
-use Rattle.mr_hosted.specs.declared.fault.HostedFault.TheVariants as hosted
 use Rattle.mr_mail.specs.declared.fault.MessageFault.{MessageFault}
 use Rattle.mr_mail.specs.declared.fault.MessageFault.TheVariants as message
 use Rattle.mr_maildir.specs.declared.policy.MergeFault.{MergeFault}
@@ -39,6 +37,7 @@ kept_number kept.OutOfMemory = 1
 kept_number (kept.Refused refusal) = in_family 7 (refusal_number refusal)
 kept_number kept.Failed = 10
 kept_number kept.TooLarge = 12
+kept_number kept.Unsettled = 9
 
 -- of a fault of opening a file: that of the fault which it carries, where it carries one of a family
 abbrev pub open_number : OpenFault → ℕ
@@ -92,16 +91,13 @@ abbrev pub of_event : EventFault → Fault
 of_event event.OutOfMemory = OutOfMemory
 of_event fault = Event fault
 
--- the faults of a kept replica, and of one whose host writes, as the desk's
+-- the faults of a kept replica as the desk's
 abbrev pub of_kept : KeptFault → Fault
 of_kept kept.OutOfMemory = OutOfMemory
 of_kept (kept.Refused refusal) = Refused refusal
 of_kept kept.Failed = Failed
 of_kept kept.TooLarge = TooLarge
-
-abbrev pub of_hosted : HostedFault → Fault
-of_hosted hosted.Unsettled = Unsettled
-of_hosted (hosted.Kept fault) = of_kept fault
+of_kept kept.Unsettled = Unsettled
 
 -- What is read of bytes: the fault that there is, or what is meant where there is none. Memory runs out only where some is needed.
 abbrev pub Reads : {X : Type 0} → (NeedsMemory : Type 0) → Option Fault → (X → Type 0) → Result X Fault → Type 0

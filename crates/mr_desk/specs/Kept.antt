@@ -1,19 +1,16 @@
--- what a replica whose host writes does with an event, and with a call
-use Rattle.std.specs.Prelude.{◌≡◌, ◌<◌, ◌++◌, ◌∷◌, [], true, false, IsTrue, List, length, Option, Some, None, Result, Ok, Err}
+-- what a replica whose host writes does with an event, with a call, and at a commit
+use Rattle.std.specs.Prelude.{◌≡◌, true, false, Option, Some, None, Result, Ok, Err}
 use Rattle.mr_itemset.specs.Normal.{Normal}
 use Rattle.mr_itemset.specs.Sparing.{sparing_form}
-use Rattle.mr_wire.specs.declared.decoding.TheConstants.{MAX_REST_BYTES}
-use Rattle.mr_entry.specs.Spelling.{rest_bytes}
-use Rattle.mr_journal.specs.Journal.{has_failed}
-use Rattle.mr_kept.specs.Kept.{SameJournal, journal_of, leaving, replica_of}
+use Rattle.mr_kept.specs.Answered.{Answered}
+use Rattle.mr_kept.specs.Kept.{Asks as KeptAsks, SameJournal, journal_of, leaving, replica_of}
 use Rattle.mr_kept.specs.declared.fault.KeptFault.{KeptFault}
 use Rattle.mr_kept.specs.declared.fault.KeptFault.TheVariants as kept
+use Rattle.mr_hosted.specs.Commit.{HostCommits}
 use Rattle.mr_hosted.specs.Hosted.{SameHost, journaled_of, may_show}
 use Rattle.mr_hosted.specs.declared.hosted.Hosted.{Hosted}
 use Rattle.mr_replica.specs.State.{State}
-use Rattle.mr_replica.specs.Step.{Steps}
 use Rattle.mr_replica.specs.declared.event.Event.{Event}
-use Rattle.mr_replica.specs.declared.event.Event.TheVariants.{Create, Edit, Pull, Next, Vouch}
 use Rattle.mr_replica.specs.declared.event.Reply.{Reply}
 use Rattle.mr_desk.specs.Asked.{call_fault, IsEventOf}
 use Rattle.mr_desk.specs.Merge.{merge_fault_in, IsMergeIn}
@@ -25,14 +22,10 @@ use Rattle.mr_desk.specs.declared.fault.Fault.TheVariants as fault
 use Rattle.mr_desk.specs.declared.reply.Told.{Told}
 use Rattle.mr_desk.specs.declared.reply.Told.TheVariants as told
 
--- A reply that shows a version or gives a frame is held back, behind those that are, and nothing is told. Another is told at once.
-abbrev pub Gives : Event → Reply → Told → (old new : List Reply) → Type 0
-Gives (Create message) reply t old new = (t ≡ told.Done) × (new ≡ old ++ reply ∷ [])
-Gives (Edit bases message) reply t old new = (t ≡ told.Done) × (new ≡ old ++ reply ∷ [])
-Gives Pull reply t old new = (t ≡ told.Done) × (new ≡ old ++ reply ∷ [])
-Gives (Next stream) reply t old new = (t ≡ told.Done) × (new ≡ old ++ reply ∷ [])
-Gives (Vouch version) reply t old new = (t ≡ told.Done) × (new ≡ old ++ reply ∷ [])
-Gives event reply t old new = (t ≡ told_by reply) × (new ≡ old)
+-- what is told of a reply that is given at once, and that it is done where none is
+abbrev pub told_of : Option Reply → Told
+told_of None = told.Done
+told_of (Some reply) = told_by reply
 
 -- nothing is wrong, and of the event that is meant this holds
 abbrev pub Asks : Option Fault → (Event → Type 0) → (Event → Type 0) → Type 0
@@ -52,18 +45,15 @@ module _ {V : Type 0} where
 
   -- The replica takes its step, and its reply is held back or told. The file, and what is left to be done, is as it was.
   pub record Goes (old : Hosted Normal V) (event : Event) (t : Told) (new : Hosted Normal V) : Type 0 where
-    pub reply : Reply
-    pub step : Steps sparing_form (inside old) event (Ok reply) (inside new)
-    pub gives : Gives event reply t (leaving (journaled_of old)) (leaving (journaled_of new))
+    pub given : Option Reply
+    pub asked : KeptAsks sparing_form (journaled_of old) event (Ok given) (journaled_of new)
+    pub told_is : t ≡ told_of given
     pub journal : SameJournal (journaled_of old) (journaled_of new)
     pub host : SameHost old new
 
-  -- the replica refuses the event
+  -- the replica refuses the event, or the file can't keep it
   abbrev pub Refuses : Hosted Normal V → Event → KeptFault → Type 0
-  Refuses h event (kept.Refused e) = Steps sparing_form (inside h) event (Err e) (inside h)
-  Refuses h event kept.Failed = IsTrue (has_failed (journal_of (journaled_of h)))
-  Refuses h event kept.TooLarge = (has_failed (journal_of (journaled_of h)) ≡ false) × (MAX_REST_BYTES < length (rest_bytes event))
-  Refuses h event kept.OutOfMemory = Unit {0}
+  Refuses h event fault = Answered sparing_form (journal_of (journaled_of h)) (inside h) event (Err fault) (inside h)
 
   -- An event that is meant is taken, where nothing is wrong. Else, or where it isn't taken, all stays.
   module _ (wrong : Option Fault) (IsMeant : Event → Type 0) where
@@ -83,3 +73,12 @@ module _ {V : Type 0} where
   abbrev pub KeptMerges : Hosted Normal V → VersionNumbers → Result Told Fault → Hosted Normal V → Type 0
   KeptMerges old item (Err fault.Unsettled) new = (may_show old ≡ false) × Stays old new
   KeptMerges old item answer new = (may_show old ≡ true) × TakesMeant (merge_fault_in (inside old) item) (IsMergeIn (inside old) item) old answer new
+
+  -- All that waits, events and notes, is to be kept, or isn't.
+  abbrev pub KeptCommits : Hosted Normal V → Result (Unit {0}) Fault → Hosted Normal V → Type 0
+  KeptCommits old (Ok done) new = HostCommits sparing_form old (Ok done) new
+  KeptCommits old (Err fault.Unsettled) new = HostCommits sparing_form old (Err kept.Unsettled) new
+  KeptCommits old (Err fault.Failed) new = HostCommits sparing_form old (Err kept.Failed) new
+  KeptCommits old (Err fault.TooLarge) new = HostCommits sparing_form old (Err kept.TooLarge) new
+  KeptCommits old (Err fault.OutOfMemory) new = HostCommits sparing_form old (Err kept.OutOfMemory) new
+  KeptCommits old (Err f) new = ⊥

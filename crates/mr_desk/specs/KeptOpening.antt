@@ -20,7 +20,7 @@ use Rattle.mr_kept.specs.Whole.{ComesBack, HasLog, HasLogOf, IsOfMachine}
 use Rattle.mr_kept.specs.declared.fault.OpenFault.{OpenFault}
 use Rattle.mr_hosted.specs.Hosted.{IsNew, journaled_of, outbox_of}
 use Rattle.mr_hosted.specs.declared.hosted.Hosted.{Hosted}
-use Rattle.mr_outbox.specs.Outbox.{file_of, left_since, may_leave}
+use Rattle.mr_hosted.specs.Outbox.{file_of, left_since, may_leave}
 use Rattle.mr_replica.specs.State.{State, new_state}
 use Rattle.mr_replica.specs.declared.replica.replay.ReplayFault.TheVariants.{BadLimit}
 use Rattle.mr_desk.specs.Kept.{inside}

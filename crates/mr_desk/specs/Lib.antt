@@ -5,7 +5,6 @@ pub mod Draft
 pub mod Fault
 pub mod Frames
 pub mod Kept
-pub mod KeptCommit
 pub mod KeptOpening
 pub mod Log
 pub mod Merge

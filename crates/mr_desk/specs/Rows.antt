@@ -12,7 +12,6 @@ use Rattle.mr_journal.specs.declared.fault.JournalFault.TheVariants as journal
 use Rattle.mr_kept.specs.declared.fault.KeptFault.TheVariants as kept
 use Rattle.mr_kept.specs.declared.fault.OpenFault.TheVariants as opens
 use Rattle.mr_kept.specs.declared.peer.PeerFault.TheVariants as peer
-use Rattle.mr_replica.specs.declared.event.Event.TheVariants as event
 use Rattle.mr_replica.specs.declared.event.Reply.TheVariants as reply
 use Rattle.mr_replica.specs.declared.replica.replay.ReplayFault.TheVariants.{BadLimit}
 use Rattle.mr_replica.specs.declared.refusal.Refusal.TheVariants.{NoSession, OutOfMemory as NoMemory}
@@ -24,7 +23,7 @@ use Rattle.mr_desk.specs.Device.{notes_found}
 use Rattle.mr_desk.specs.Draft.{labels_of}
 use Rattle.mr_desk.specs.Fault.{fault_number}
 use Rattle.mr_desk.specs.Frames.{announced, any_frame, claim_by, frame_fault, only_ask, only_receipt}
-use Rattle.mr_desk.specs.Kept.{Gives}
+use Rattle.mr_desk.specs.Kept.{told_of}
 use Rattle.mr_desk.specs.KeptOpening.{given}
 use Rattle.mr_desk.specs.Merge.{last_under, said_together, unmerged}
 use Rattle.mr_desk.specs.Notes.{TakesNote, note_of}
@@ -199,13 +198,13 @@ receipt_tells_nothing = refl
 
 -- ---- a replica whose host writes
 
--- a version is held back, and not told
-pub version_waits : Gives event.Pull (reply.Issued (name 1 2)) told.Done (reply.Done ∷ []) (reply.Done ∷ reply.Issued (name 1 2) ∷ [])
-version_waits = (refl, refl)
+-- of a version that is held back it is told that it is done
+pub version_waits : told_of None ≡ told.Done
+version_waits = refl
 
 -- a stream's number is told at once
-pub stream_is_told : Gives (event.CutIn 3) (reply.Streaming 4) (told.Streaming 4) [] []
-stream_is_told = (refl, refl)
+pub stream_is_told : told_of (Some (reply.Streaming 4)) ≡ told.Streaming 4
+stream_is_told = refl
 
 pub no_birth : given [] ≡ None
 no_birth = refl

@@ -8,8 +8,8 @@ use crate::fault::Fault;
 use crate::kept::{KeptDesk, commit, merge, serve};
 use crate::reply::Told;
 use mr_entry::Note;
+use mr_hosted::Act;
 use mr_itemset::SparingKnowledge;
-use mr_outbox::Act;
 use mr_replica::{Replica, Reply};
 use std::alloc::Global;
 

@@ -4,7 +4,6 @@ ghost use Rattle.mr_desk.specs.Fault.{fault_number, in_family, kept_number, open
 
 use mr_entry::event::EventFault;
 use mr_filter::FilterFault;
-use mr_hosted::HostedFault;
 use mr_kept::{KeptFault, OpenFault, PeerFault};
 use mr_mail::MessageFault;
 use mr_maildir::MergeFault;
@@ -122,6 +121,7 @@ fn kept_number(fault: KeptFault) -> u16
         KeptFault::Refused(refusal) => in_family(7, refusal.number()),
         KeptFault::Failed => 10,
         KeptFault::TooLarge => 12,
+        KeptFault::Unsettled => 9,
     }
 }
 
@@ -263,20 +263,7 @@ impl From<KeptFault> for Fault {
             KeptFault::Refused(refusal) => Fault::Refused(refusal),
             KeptFault::Failed => Fault::Failed,
             KeptFault::TooLarge => Fault::TooLarge,
-        }
-    }
-}
-
-impl From<HostedFault> for Fault {
-    ghost use Rattle.std.specs.Prelude.{◌≡◌};
-    ghost use Rattle.mr_desk.specs.Fault.{of_hosted};
-
-    ghost from_gives = { λ fault made. made ≡ of_hosted fault };
-
-    fn from(fault: HostedFault) -> Fault {
-        match fault {
-            HostedFault::Unsettled => Fault::Unsettled,
-            HostedFault::Kept(fault) => Fault::from(fault),
+            KeptFault::Unsettled => Fault::Unsettled,
         }
     }
 }

@@ -1,74 +1,29 @@
 //! A replica whose host writes, behind the same calls as a desk.
-ghost use Rattle.std.specs.Prelude.{◌≡◌};
-ghost use Rattle.mr_replica.specs.Methods.{received_reply};
-ghost use Rattle.mr_desk.specs.Kept.{KeptAnswers, KeptMerges};
-ghost use Rattle.mr_desk.specs.inner.Kept.{KeptTells, told_where};
-ghost use Rattle.mr_desk.specs.KeptCommit.{KeptCommits};
-ghost use Rattle.mr_desk.specs.Told.{told_by};
-ghost use Rattle.mr_desk.specs.declared.reply.Told.TheVariants as told;
+ghost use Rattle.mr_desk.specs.Kept.{KeptAnswers, KeptCommits, KeptMerges};
+ghost use Rattle.mr_desk.specs.inner.Kept.{KeptTells};
 
 use crate::call::{Call, VersionNumbers};
 use crate::event::event_of;
 use crate::fault::Fault;
 use crate::merging::merge_in;
-use crate::reply::Told;
+use crate::reply::{Told, told_by};
 use mr_hosted::Hosted;
 use mr_itemset::SparingKnowledge;
 use mr_kept::KeptFault;
-use mr_replica::{Event, Received};
+use mr_replica::Event;
 use std::alloc::Global;
 
 /// A replica whose host writes its file. What it hands out, and its replica, its own calls give: only once the host has done its acts.
 pub type KeptDesk = Hosted<SparingKnowledge>;
 
-/// What came of an event of which no more is told than that it is done.
-fn told_done(answer: Result<(), KeptFault>) -> Result<Told, KeptFault>
-    ensures { result ≡ told_where (λ _. told.Done) answer }
-{
-    match answer {
-        Ok(()) => Ok(Told::Done),
-        Err(fault) => Err(fault),
-    }
-}
-
-/// What came of a request that a stream was opened for.
-fn told_stream(answer: Result<u64, KeptFault>) -> Result<Told, KeptFault>
-    ensures { result ≡ told_where told.Streaming answer }
-{
-    match answer {
-        Ok(stream) => Ok(Told::Streaming(stream)),
-        Err(fault) => Err(fault),
-    }
-}
-
-/// What came of a record.
-fn told_outcome(answer: Result<Received, KeptFault>) -> Result<Told, KeptFault>
-    ensures { result ≡ told_where (λ received. told_by (received_reply received)) answer }
-{
-    match answer {
-        Ok(Received::Took) => Ok(Told::Took),
-        Ok(Received::Known) => Ok(Told::Known),
-        Ok(Received::Finished) => Ok(Told::Finished),
-        Err(fault) => Err(fault),
-    }
-}
-
 /// One event. What its caller alone is told, it tells at once; what shows a version or gives a frame waits for the next commit.
 fn tell(kept: &mut KeptDesk, event: Event) -> Result<Told, KeptFault>
     ensures { KeptTells kept.old event result kept.new }
 {
-    match event {
-        Event::Create(message) => told_done(kept.create(message)),
-        Event::Edit(bases, message) => told_done(kept.edit(bases, message)),
-        Event::Retire => told_done(kept.retire()),
-        Event::Pull => told_done(kept.pull()),
-        Event::Receive(frame) => told_outcome(kept.receive(frame)),
-        Event::CutIn(session) => told_done(kept.cut_in(session)),
-        Event::Answer(ask) => told_stream(kept.answer(ask)),
-        Event::Next(stream) => told_done(kept.next(stream)),
-        Event::CutOut(stream) => told_done(kept.cut_out(stream)),
-        Event::Vouch(version) => told_done(kept.vouch(version)),
-        Event::Release(receipt) => told_done(kept.release(receipt)),
+    match kept.ask(event) {
+        Ok(Some(reply)) => Ok(told_by(&reply)),
+        Ok(None) => Ok(Told::Done),
+        Err(fault) => Err(fault),
     }
 }
 

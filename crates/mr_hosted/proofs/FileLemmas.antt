@@ -1,5 +1,5 @@
 -- what a host's file has once all acts are done
-use Rattle.std.proofs.Common.{◌≡◌, inl, List, [], ◌++◌, sym, ap, subst, ◌∙◌, append-nil}
+use Rattle.std.proofs.Common.{◌≡◌, inl, true, Err, List, [], ◌++◌, sym, ap, subst, ◌∙◌, append-nil}
 use Rattle.std.proofs.lemmas.List.{take-append-drop}
 use Rattle.std.specs.Prelude.{map}
 use Rattle.std.specs.List.{AllByRecursion}
@@ -15,14 +15,19 @@ use Rattle.mr_entry.specs.declared.entry.Entry.{Entry}
 use Rattle.mr_replica.specs.Replay.{IsItsLog}
 use Rattle.mr_replica.specs.State.{State}
 use Rattle.mr_replica.specs.declared.event.Event.{Event}
+use Rattle.mr_kept.specs.declared.fault.KeptFault.{KeptFault}
+use Rattle.mr_kept.specs.declared.fault.KeptFault.TheVariants.{Unsettled}
 use Rattle.mr_kept.specs.declared.journaled.Journaled.{Journaled}
 use Rattle.mr_kept.specs.Entries.{notes_of}
 use Rattle.mr_kept.specs.Kept.{IsKept, entries_waiting, head_of, issued_of, journal_of, kept_of, notes_waiting, replica_of, waiting}
 use Rattle.mr_kept.specs.Whole.{HasLogOf, IsOf}
 use Rattle.mr_kept.proofs.EntryLemmas.{events_head, notes_append, notes_head}
 use Rattle.mr_kept.proofs.RunLemmas.{batch_notes}
-use Rattle.mr_outbox.specs.Outbox.{file_of, may_leave}
-use Rattle.mr_outbox.specs.declared.outbox.Outbox.{Outbox}
+use Rattle.mr_hosted.specs.Commit.{HostCommits, IsUnhanded}
+use Rattle.mr_hosted.specs.Hosted.{is_settled}
+use Rattle.mr_hosted.specs.Outbox.{file_of, may_leave}
+use Rattle.mr_hosted.specs.declared.hosted.Hosted.{Hosted}
+use Rattle.mr_hosted.specs.declared.outbox.Outbox.{Outbox}
 
 module _ {K V : Type 0} (form : Form K) where
   -- where no event waits it has the replica's log, and the notes of its entries
@@ -53,3 +58,9 @@ module _ {K V : Type 0} (form : Form K) where
       let has = has_all (entries ++ entries_waiting old) new kept none (subst (λ (s : State K). IsItsLog form s) (sym replica) log) of_new in
       let notes = notes_append entries (entries_waiting old) ∙ ap (λ (l : List NoteParts). notes_of entries ++ l) (batch_notes (issued_of old) (waiting old) (notes_waiting old)) in
       subst (λ (ns : List NoteParts). HasLogOf form (file_of (device_of (journal_of new))) (head_of new) (replica_of new) ns) notes has
+
+module _ {K V : Type 0} (form : Form K) where
+  -- a journal that isn't committed never says that the host has acts to do
+  pub unhanded : (old new : Hosted K V) (fault : KeptFault) → (is_settled old ≡ true) × IsUnhanded form old fault new → HostCommits form old (Err fault) new
+  unhanded old new Unsettled h = absurd h.1.uncommitted.why
+  unhanded old new fault h = h

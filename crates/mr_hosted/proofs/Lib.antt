@@ -1,2 +1,3 @@
 -- lemmas
+pub mod ActLemmas
 pub mod FileLemmas

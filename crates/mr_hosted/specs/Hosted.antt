@@ -1,15 +1,12 @@
 -- what a host has done, and what is shown then
 use Rattle.std.specs.Prelude.{◌≡◌, ◌&&◌, [], Bool, true, false, not, nat_le, List, drop, length}
 use Rattle.mr_journal.specs.Journal.{device_of}
-use Rattle.mr_kept.specs.Commit.{IsUncommitted}
 use Rattle.mr_kept.specs.Kept.{journal_of, nothing_waits}
 use Rattle.mr_kept.specs.declared.journaled.Journaled.{Journaled}
-use Rattle.mr_outbox.specs.Outbox.{acts_of}
-use Rattle.mr_outbox.specs.declared.act.Act.{Act}
-use Rattle.mr_outbox.specs.declared.outbox.Outbox.{Outbox}
+use Rattle.mr_hosted.specs.Outbox.{acts_of}
+use Rattle.mr_hosted.specs.declared.act.Act.{Act}
+use Rattle.mr_hosted.specs.declared.outbox.Outbox.{Outbox}
 use Rattle.mr_replica.specs.declared.event.Reply.{Reply}
-use Rattle.mr_hosted.specs.declared.fault.HostedFault.{HostedFault}
-use Rattle.mr_hosted.specs.declared.fault.HostedFault.TheVariants.{Kept, Unsettled}
 use Rattle.mr_hosted.specs.declared.hosted.Hosted.{Hosted}
 
 module _ {K V : Type 0} where
@@ -40,11 +37,6 @@ module _ {K V : Type 0} where
   -- the host has done all, nothing failed, and neither an event nor a note waits
   abbrev pub may_show : Hosted K V → Bool
   may_show h = is_settled h && nothing_waits (journaled_of h)
-
-  -- why nothing is committed: the host has acts to do, or one of them failed; else as the journal says
-  abbrev pub IsUnhanded : Hosted K V → HostedFault → Type 0
-  IsUnhanded h Unsettled = is_settled h ≡ false
-  IsUnhanded h (Kept fault) = (is_settled h ≡ true) × IsUncommitted (journaled_of h) fault
 
   -- what the host has done and what failed is as it was
   pub record SameDone (old new : Hosted K V) : Type 0 where

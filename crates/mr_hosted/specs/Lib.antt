@@ -1,2 +1,5 @@
-pub mod Fault
+pub mod Acts
+pub mod Outbox
 pub mod Hosted
+pub mod Commit
+pub mod Rows

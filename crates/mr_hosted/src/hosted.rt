@@ -1,9 +1,10 @@
 //! A replica, its journal, and what the host has done.
 ghost use Rattle.std.specs.Prelude.{◌≡◌, MatchOption, true, false};
 
+use crate::act::Act;
+use crate::outbox::Outbox;
 use mr_forms::Knowledge;
 use mr_kept::Journaled;
-use mr_outbox::{Act, Outbox};
 use mr_replica::{Replica, Reply};
 
 /// A replica that is kept by its host.

@@ -9,14 +9,14 @@ ghost use Rattle.mr_journal.specs.Format.{StandAlike};
 ghost use Rattle.mr_kept.specs.Opening.{Begins, GoesOn, IsOfPlace, Reopens};
 ghost use Rattle.mr_kept.specs.Refusing.{IsOpenFault};
 ghost use Rattle.mr_kept.specs.Whole.{ComesBack, HasLog, HasLogOf, IsOfMachine};
-ghost use Rattle.mr_outbox.specs.Outbox.{file_of, left_since, may_leave};
+ghost use Rattle.mr_hosted.specs.Outbox.{file_of, left_since, may_leave};
 ghost use Rattle.mr_replica.specs.State.{State, new_state};
 
 use crate::hosted::Hosted;
+use crate::outbox::Outbox;
 use mr_entry::{Birth, Mark};
 use mr_forms::Knowledge;
 use mr_kept::{Journaled, OpenFault, Opened, Setup};
-use mr_outbox::Outbox;
 use std::alloc::Global;
 
 impl<K: Knowledge> Hosted<K> {

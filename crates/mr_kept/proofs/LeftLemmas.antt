@@ -1,14 +1,14 @@
 -- what a commit leaves has the log of a replica
 use Rattle.std.proofs.Common.{arith}
 use Rattle.std.proofs.Common.{◌≡◌, ◌⊎◌, inl, inr, ⊎_elim, Ok, ℕ, List, [], ◌∷◌, ◌++◌, sym, ap, subst, ◌∙◌, append_assoc, append-nil, refl}
-use Rattle.mr_kept.proofs.Names.{AdmitsAll, AllByRecursion, AreHeaded, AreSpelled, ClauseParts, Entry, Event, Form, HasLog, HeadParts, IsEntry}
-use Rattle.mr_kept.proofs.Names.{IsItsLog, IsKept, IsOf, IsOfSameSetting, Journaled, NoteParts, Replays, Stands, State, device_of, entries_waiting}
+use Rattle.mr_kept.proofs.Names.{AdmitsAll, AllByRecursion, AreHeaded, AreSpelled, ClauseParts, DeviceOf, Entry, Event, Form, HasLog, HeadParts, IsEntry}
+use Rattle.mr_kept.proofs.Names.{IsItsLog, IsKept, IsOf, IsOfSameSetting, IsTrue, Journaled, Keeps, LeavesOneOfTwo, LeavesOnly, NoteParts, Replays, Stands, State, device_of, entries_waiting}
 use Rattle.mr_kept.proofs.Names.{entry_bytes, events_of, head_of, issued_of, journal_of, kept_of, map, notes_of, notes_waiting, replica_of, step_log}
-use Rattle.mr_kept.proofs.Names.{step_setting, take-append-drop, waiting}
+use Rattle.mr_kept.proofs.Names.{started, step_setting, take-append-drop, waiting, widened}
 use Rattle.mr_kept.proofs.CloseLemmas.{same_setting, setting_on}
 use Rattle.mr_kept.proofs.EntryLemmas.{all_append, events_append, events_head, notes_append, notes_head}
 use Rattle.mr_kept.proofs.RunLemmas.{batch_notes, batch_tells}
-use Rattle.mr_kept.proofs.KeptLemmas.{headed_more, stands_now}
+use Rattle.mr_kept.proofs.KeptLemmas.{headed_more, moments_all, stands_now}
 use Rattle.mr_kept.proofs.OpenLemmas.{all_setting}
 
 module _ {K : Type 0} (form : Form K) where
@@ -113,3 +113,28 @@ module _ {K D V : Type 0} (form : Form K) where
       → HasLog form c (head_of j) (notes_of entries)
   same_notes entries j c none left =
       ⊎_elim (λ old. old) (λ all. subst (λ (ns : List NoteParts). HasLog form c (head_of j) ns) (ap (λ (l : List NoteParts). notes_of entries ++ l) none ∙ append-nil (notes_of entries)) all) left
+
+-- ---- what a commit leaves
+
+module _ {K D V : Type 0} (form : Form K) (device : DeviceOf D) where
+  -- nothing was done: a crash leaves what it left before
+  pub leaves_same : ((d : D) (c : List ℕ) → device.left_since d (device.moment d) c → device.may_leave d c) → (j : Journaled K D V) → IsItsLog form (replica_of j) → LeavesOneOfTwo form device j j
+  leaves_same only_now j is =
+      let d : D = device_of (journal_of j) in
+      record {
+        any_moment = λ told entries kept. started {old = d} (λ c left. inl (stands_now entries j kept c (only_now d c left)));
+        left = λ told entries kept of. started {old = d} (λ c left. inl (left_now form entries j c kept is of (only_now d c left)));
+      }
+
+  -- what a crash leaves of the journal's commit of what waits
+  pub leaves_batch : (old new : Journaled K D V) (batch : List (List ℕ)) → IsItsLog form (replica_of old) → AreSpelled (entries_waiting old) batch
+      → (IsTrue device.is_told → (texts : List (List ℕ)) → Keeps device.seen device.may_leave texts (journal_of old)
+      → LeavesOnly device.moment device.left_since (device_of (journal_of old)) (device_of (journal_of new)) (λ c. Stands texts c ⊎ Stands (texts ++ batch) c))
+      → LeavesOneOfTwo form device old new
+  leaves_batch old new batch is spelled leaves = record {
+    any_moment = λ told entries kept. moments_all entries old batch (device_of (journal_of old)) (device_of (journal_of new)) spelled (leaves told (map entry_bytes entries) kept.device);
+    left = λ told entries kept of.
+        widened {P = λ c. Stands (map entry_bytes entries) c ⊎ Stands (map entry_bytes (entries ++ entries_waiting old)) c} (λ c. HasLog form c (head_of old) (notes_of entries) ⊎ HasLog form c (head_of old) (notes_of entries ++ notes_waiting old))
+        (moments_all entries old batch (device_of (journal_of old)) (device_of (journal_of new)) spelled (leaves told (map entry_bytes entries) kept.device))
+        (λ c here. left_by form entries old batch c kept is of spelled here);
+  }

@@ -14,13 +14,15 @@ pub use Rattle.mr_journal.specs.Device.{LeavesOnly}
 pub use Rattle.mr_journal.specs.Fault.{IsOfBatch}
 pub use Rattle.mr_journal.specs.Format.{AreBatches, AreEntries, Fits, StandAlike, Stands, body, contents}
 pub use Rattle.mr_journal.specs.Journal.{Keeps, device_of, end_of, has_failed}
+pub use Rattle.mr_journal.specs.declared.device.Device.{Ghosts as DeviceOf}
 pub use Rattle.mr_journal.specs.declared.fault.JournalFault.{JournalFault}
 pub use Rattle.mr_journal.specs.declared.journal.Journal.{Journal}
 pub use Rattle.mr_kept.specs.Beginning.{HasParts, IsBeginFault, IsOfFile, IsOfSetup}
 pub use Rattle.mr_kept.specs.Closing.{AreClosed, IsCut, IsFull, Takes, closers}
-pub use Rattle.mr_kept.specs.Commit.{IsUncommitted}
+pub use Rattle.mr_kept.specs.Commit.{IsUncommitted, LeavesOneOfTwo, Uncommitted}
 pub use Rattle.mr_kept.specs.Entries.{AllBelong, AreInOrder, AreSpelled, Belongs, batch_entries, counted, entries_of, issued_after, notes_of, notes_of_entry}
 pub use Rattle.mr_kept.specs.Entries.{with_event, with_next}
+pub use Rattle.mr_kept.specs.Fault.{kept_fault_of}
 pub use Rattle.mr_kept.specs.Kept.{AreHeaded, IsKept, SameJournal, Tells, entries_waiting, head_of, issued_of, journal_of, kept_of, leaving, notes_waiting}
 pub use Rattle.mr_kept.specs.Kept.{nothing_waits, replica_of, waiting}
 pub use Rattle.mr_kept.specs.Opening.{Begins, HasCut, IsOfOther, IsOfPlace, IsReplayed, Reopens}
@@ -53,7 +55,7 @@ pub use Rattle.mr_wire.specs.declared.frame.Frame.{Frame}
 pub use Rattle.std.proofs.Math.Seq.{drop-append_seam, drop-cons, take-length}
 pub use Rattle.std.proofs.lemmas.Bool.{cases_lt, eqb-true, false≢true, le-leb, leb-false, leb-true}
 pub use Rattle.std.proofs.lemmas.Bool.Decides.{eqb_tells}
-pub use Rattle.std.proofs.lemmas.List.{append-nil, append_cancel_left, drop_min, drop_more, length-append, length-map, length-take-le, map-append, map_push}
+pub use Rattle.std.proofs.lemmas.List.{append-nil, append_cancel_left, drop_all, drop_min, drop_more, length-append, length-map, length-take-le, map-append, map_push}
 pub use Rattle.std.proofs.lemmas.List.{nil_from_length, replicate_more, take-append-drop, take-append-le, take_more}
 pub use Rattle.std.proofs.lemmas.Result.{err_from_is_err_and}
 pub use Rattle.std.specs.List.{AllByRecursion, flat_map, list_any}

@@ -5,7 +5,7 @@ use Rattle.mr_journal.specs.declared.fault.JournalFault.TheVariants as journal
 use Rattle.mr_entry.specs.declared.fault.EntryFault.{EntryFault}
 use Rattle.mr_entry.specs.declared.fault.EntryFault.TheVariants as entry
 use Rattle.mr_kept.specs.declared.fault.KeptFault.{KeptFault}
-use Rattle.mr_kept.specs.declared.fault.KeptFault.TheVariants.{OutOfMemory, Refused, Failed, TooLarge}
+use Rattle.mr_kept.specs.declared.fault.KeptFault.TheVariants.{OutOfMemory, Refused, Failed, TooLarge, Unsettled}
 use Rattle.mr_kept.specs.declared.fault.OpenFault.{OpenFault}
 use Rattle.mr_kept.specs.declared.fault.OpenFault.TheVariants as opens
 use Rattle.mr_kept.specs.declared.peer.PeerFault.{PeerFault}
@@ -16,6 +16,7 @@ kept_fault_number OutOfMemory = 0
 kept_fault_number (Refused _) = 1
 kept_fault_number Failed = 2
 kept_fault_number TooLarge = 3
+kept_fault_number Unsettled = 4
 
 abbrev pub open_fault_number : OpenFault → ℕ
 open_fault_number opens.OutOfMemory = 0

@@ -1,5 +1,5 @@
 -- what an open replica has, and what of it is kept
-use Rattle.std.specs.Prelude.{◌≡◌, ◌++◌, ◌==◌, ◌&&◌, ◌∷◌, [], ℕ, Bool, nat_le, IsTrue, length, take, drop, map, List, Result, Ok, Err}
+use Rattle.std.specs.Prelude.{◌≡◌, ◌++◌, ◌==◌, ◌&&◌, ◌∷◌, [], ℕ, Bool, true, false, nat_le, IsTrue, length, take, drop, map, List, Option, Some, None, Result, Ok, Err}
 use Rattle.std.specs.List.{AllByRecursion}
 use Rattle.mr_forms.specs.Known.{Form}
 use Rattle.mr_journal.specs.Journal.{Keeps}
@@ -17,7 +17,7 @@ use Rattle.mr_replica.specs.declared.event.Event.{Event}
 use Rattle.mr_replica.specs.declared.event.Reply.{Reply}
 use Rattle.mr_kept.specs.declared.fault.KeptFault.{KeptFault}
 use Rattle.mr_kept.specs.declared.journaled.Journaled.{Journaled}
-use Rattle.mr_kept.specs.Answered.{Answered}
+use Rattle.mr_kept.specs.Answered.{Answered, is_held_back}
 use Rattle.mr_kept.specs.Entries.{AllBelong, batch_entries, issued_after}
 
 -- the head tells what replica it is of: its id, its filter's text and its event limit
@@ -112,3 +112,9 @@ module _ {K D V : Type 0} where
   -- The event is answered at once. Nothing is held back.
   abbrev pub AtOnce : Form K → Journaled K D V → Event → Result Reply KeptFault → Journaled K D V → Type 0
   AtOnce form old event answer new = Answered form (journal_of old) (replica_of old) event answer (replica_of new) × (leaving new ≡ leaving old)
+
+  -- The event is answered: later, and nothing is told, where the reply may leave; else at once.
+  abbrev pub Asks : Form K → Journaled K D V → Event → Result (Option Reply) KeptFault → Journaled K D V → Type 0
+  Asks form old event (Ok None) new = (is_held_back event ≡ true) × Later form old event (Ok tt) new
+  Asks form old event (Ok (Some reply)) new = (is_held_back event ≡ false) × AtOnce form old event (Ok reply) new
+  Asks form old event (Err e) new = AtOnce form old event (Err e) new

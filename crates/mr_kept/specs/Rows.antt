@@ -1,14 +1,16 @@
 -- worked rows: what the definitions give for small values
-use Rattle.std.specs.Prelude.{◌≡◌, ◌≢◌, ℕ, List, [], ◌∷◌, ◌++◌, true, false, Some, None, refl}
+use Rattle.std.specs.Prelude.{◌≡◌, ◌≢◌, ℕ, List, [], ◌∷◌, ◌++◌, true, false, Some, None, Ok, refl}
 use Rattle.std.specs.declared.io.Error.{Error}
 use Rattle.std.proofs.Common.{inl, arith, lit<, sym, ◌∙◌}
 use Rattle.mr_mail.specs.Mail.{Mail}
+use Rattle.mr_forms.specs.Known.{Form}
 use Rattle.mr_journal.specs.Format.{Stands}
 use Rattle.mr_journal.specs.Journal.{has_failed}
 use Rattle.mr_journal.specs.declared.journal.Journal.{Journal}
 use Rattle.mr_replica.specs.declared.replica.replay.ReplayFault.TheVariants.{BadLimit}
 use Rattle.mr_replica.specs.declared.event.Event.{Event}
-use Rattle.mr_replica.specs.declared.event.Event.TheVariants.{Create, Edit, Pull, Next, CutIn, CutOut}
+use Rattle.mr_replica.specs.declared.event.Event.TheVariants.{Create, Edit, Pull, Next, CutIn, CutOut, Retire}
+use Rattle.mr_replica.specs.declared.event.Reply.{Reply}
 use Rattle.mr_entry.specs.Grammar.{Spells}
 use Rattle.mr_entry.specs.Head.{HeadParts}
 use Rattle.mr_entry.specs.Note.{NoteParts}
@@ -20,13 +22,13 @@ use Rattle.mr_kept.specs.declared.fault.OpenFault.TheVariants as fault
 use Rattle.mr_kept.specs.declared.fault.KeptFault.TheVariants as kept
 use Rattle.mr_kept.specs.declared.fault.ExplainedFault.TheVariants.{Kept, Device}
 use Rattle.mr_kept.specs.declared.journaled.Journaled.{Journaled}
-use Rattle.mr_kept.specs.Answered.{MayKeep}
+use Rattle.mr_kept.specs.Answered.{MayKeep, is_held_back}
 use Rattle.mr_kept.specs.Beginning.{IsBeginFault}
 use Rattle.mr_kept.specs.Closing.{IsCut}
 use Rattle.mr_kept.specs.Commit.{CanCommit}
 use Rattle.mr_kept.specs.Entries.{AllBelong, Belongs, batch_entries, entries_of, issued_after, notes_of}
 use Rattle.mr_kept.specs.inner.Entries.{HasNoEntry}
-use Rattle.mr_kept.specs.Kept.{entries_waiting, journal_of}
+use Rattle.mr_kept.specs.Kept.{Asks, entries_waiting, journal_of}
 use Rattle.mr_kept.specs.Explained.{explained_kept, explained_open}
 use Rattle.mr_kept.specs.Peer.{IsAbove}
 use Rattle.mr_kept.specs.Refusing.{IsOutOfOrder, IsUnread, StopsAt}
@@ -145,6 +147,13 @@ failed_row journal event failed may = let is : true ≡ false = sym failed ∙ m
 -- where nothing waits, no room is wanted
 pub no_room_row : {K D V : Type 0} (j : Journaled K D V) → has_failed (journal_of j) ≡ false → entries_waiting j ≡ [] → CanCommit j
 no_room_row j sound none = record { sound = sound; room = λ some. absurd (some none) }
+
+-- of a Retire nobody but its caller is told; what a Next gives may leave, and so is never given at once
+pub held_row : (is_held_back (Next 2) ≡ true) × (is_held_back Retire ≡ false)
+held_row = (refl, refl)
+
+pub later_row : {K D V : Type 0} (form : Form K) (old new : Journaled K D V) (reply : Reply) → Asks form old (Next 2) (Ok (Some reply)) new → ⊥
+later_row form old new reply h = let no : true ≡ false = h.0 in cc
 
 -- behind 2^32 - 1 Nexts of a stream one more has no entry, but one of another stream has
 pub long_run_row : HasNoEntry 0 2 4294967295 (Next 2) × (HasNoEntry 0 2 4294967295 (Next 3) → ⊥)

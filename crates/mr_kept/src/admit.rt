@@ -1,6 +1,6 @@
 //! Events that a replica is asked for, as far as a journal can keep them.
-ghost use Rattle.std.specs.Prelude.{MatchResult};
-ghost use Rattle.mr_kept.specs.Answered.{Answered, MayKeep, MayNotKeep};
+ghost use Rattle.std.specs.Prelude.{◌≡◌, MatchResult};
+ghost use Rattle.mr_kept.specs.Answered.{Answered, MayKeep, MayNotKeep, is_held_back};
 
 use crate::fault::KeptFault;
 use mr_entry::event::encoded_len;
@@ -11,6 +11,18 @@ use mr_wire::MAX_REST_BYTES;
 
 /// The most bytes of an event, its length among them.
 const MAX_EVENT_BYTES: usize = MAX_REST_BYTES as usize + 4;
+
+/// Whether the reply to the event may leave the device.
+pub(crate) fn is_held_back(event: &Event) -> bool
+    ensures { result ≡ is_held_back event.now }
+{
+    match event {
+        Event::Create(_) | Event::Edit(_, _) | Event::Pull | Event::Next(_) | Event::Vouch(_) => {
+            true
+        }
+        _ => false,
+    }
+}
 
 /// Whether a journal can keep the event.
 pub(crate) fn may_keep<D: Device>(journal: &Journal<D>, event: &Event) -> Result<(), KeptFault>

@@ -27,6 +27,9 @@ pub enum KeptFault {
     /// The event has more bytes than one may have, or the journal would get more than it may have.
     #[error("too large: an event has at most 8388608 bytes behind its length, a journal 4611686018427387904")]
     TooLarge,
+    /// Where a host writes the file: it has acts to do first, or one of them failed, and the file is to be opened again.
+    #[error("unsettled: the host has acts to do")]
+    Unsettled,
 }
 
 impl KeptFault {
@@ -39,6 +42,7 @@ impl KeptFault {
             KeptFault::Refused(_) => 1,
             KeptFault::Failed => 2,
             KeptFault::TooLarge => 3,
+            KeptFault::Unsettled => 4,
         }
     }
 

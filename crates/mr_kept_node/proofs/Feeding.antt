@@ -1,6 +1,6 @@
 -- What was told is the feed of a replica with just the events that were answered.
 use Rattle.std.proofs.Common.{⊎_elim, ℕ, Bool, List, [], ◌∷◌, ◌++◌, length, take, Option, Result, Ok, Err, sym, ap, subst, ◌∙◌, append_assoc}
-use Rattle.mr_kept_node.proofs.Names.{Event, Form, Goes, IsFeedOf, IsItsLog, KeptFault, KeptMachine, Passed, Refusal, Replays, Reply, Sender, State, Stopped}
+use Rattle.mr_kept_node.proofs.Names.{DeviceOf, Event, Form, Goes, IsFeedOf, IsItsLog, KeptFault, KeptMachine, Passed, Refusal, Replays, Reply, Sender, State, Stopped}
 use Rattle.mr_kept_node.proofs.Names.{Takes, TakesBy, admitted_of, append-nil, log_of, replica_of, step_feed, told_of}
 use Rattle.std.proofs.Math.Seq.{take-append_seam, take-length}
 use Rattle.mr_feed.specs.declared.entry.Entry.{Entry}
@@ -19,9 +19,9 @@ module _ {K D V : Type 0} (form : Form K) where
         feed_is = sym (ap (λ (n : ℕ). take n feed) ready.told ∙ take-length feed);
       }
 
-module _ {K D V : Type 0} (form : Form K) (is_told : Bool) (seen : D → List ℕ) (may_leave : D → List ℕ → Type 0) (moment : D → ℕ) (left_since : D → ℕ → List ℕ → Type 0) (has_failed : D → Bool) where
+module _ {K D V : Type 0} (form : Form K) (device : DeviceOf D) where
   -- what came into the feed by a letter that isn't kept is not told
-  stopped_fed : (m t : KeptMachine K D V) (letter : Event) → Ready m → IsItsLog form (replica_of m.journaled) → Stopped form is_told seen may_leave moment left_since has_failed m letter t → IsFeedOf form (log_of m ++ []) (told_of t)
+  stopped_fed : (m t : KeptMachine K D V) (letter : Event) → Ready m → IsItsLog form (replica_of m.journaled) → Stopped form device m letter t → IsFeedOf form (log_of m ++ []) (told_of t)
   stopped_fed m t letter ready its_log h =
       let before : List Entry = (replica_of m.journaled).feed in
       let grown = step_feed form (replica_of m.journaled) (replica_of h.asked_of) letter (Ok h.reply) h.asked.steps in
@@ -35,25 +35,25 @@ module _ {K D V : Type 0} (form : Form K) (is_told : Bool) (seen : D → List �
       }
 
   one_fed : (m t n : KeptMachine K D V) (xs : List Passed) (sender : Sender) (letter : Event) (answer : Result Reply Refusal) → Ready m → IsItsLog form (replica_of m.journaled)
-      → Goes form is_told seen may_leave moment left_since has_failed m letter answer t → Replays (Takes form is_told seen may_leave moment left_since has_failed) t xs n
+      → Goes form device m letter answer t → Replays (Takes form device) t xs n
       → (Ready t → IsItsLog form (replica_of t.journaled) → IsFeedOf form (log_of t ++ admitted_of xs) (told_of n)) → IsFeedOf form (log_of m ++ admitted_of (passed sender letter answer ∷ xs)) (told_of n)
   one_fed m t n xs sender letter (Ok reply) ready its_log h replays rest =
-      let log = kept_log form is_told seen may_leave moment left_since has_failed m t letter reply h in
+      let log = kept_log form device m t letter reply h in
       subst (λ (l : List Event). IsFeedOf form l (told_of n)) (ap (λ (l : List Event). l ++ admitted_of xs) log ∙ append_assoc (log_of m) (letter ∷ []) (admitted_of xs))
-      (rest (ready_kept form is_told seen may_leave moment left_since has_failed m t letter reply h) (replaying.kept form (replica_of m.journaled) (replica_of t.journaled) letter (Ok reply) its_log h.steps))
+      (rest (ready_kept form device m t letter reply h) (replaying.kept form (replica_of m.journaled) (replica_of t.journaled) letter (Ok reply) its_log h.steps))
   one_fed m t n xs sender letter (Err e) ready its_log h replays rest = ⊎_elim
       (λ same.
-      let replica = declined_same form is_told seen may_leave moment left_since has_failed m t letter e same in
+      let replica = declined_same form device m t letter e same in
       subst (λ (s : State K). IsFeedOf form (s.log ++ admitted_of xs) (told_of n)) replica
-      (rest (ready_declined form is_told seen may_leave moment left_since has_failed m t letter e ready same) (subst (λ (s : State K). IsItsLog form s) (sym replica) its_log)))
+      (rest (ready_declined form device m t letter e ready same) (subst (λ (s : State K). IsItsLog form s) (sym replica) its_log)))
       (λ stop.
-      let at_rest = rests form is_told seen may_leave moment left_since has_failed t n xs stop.1.fault stop.1.stops replays in
+      let at_rest = rests form device t n xs stop.1.fault stop.1.stops replays in
       subst (λ (l : List Event). IsFeedOf form (log_of m ++ l) (told_of n)) (sym at_rest.none_admitted)
       (subst (λ (z : KeptMachine K D V). IsFeedOf form (log_of m ++ []) (told_of z)) (sym at_rest.same) (stopped_fed m t letter ready its_log stop.1)))
       h
 
-  pub told_ran : (m n : KeptMachine K D V) (xs : List Passed) → Ready m → IsItsLog form (replica_of m.journaled) → Replays (Takes form is_told seen may_leave moment left_since has_failed) m xs n → IsFeedOf form (log_of m ++ admitted_of xs) (told_of n)
+  pub told_ran : (m n : KeptMachine K D V) (xs : List Passed) → Ready m → IsItsLog form (replica_of m.journaled) → Replays (Takes form device) m xs n → IsFeedOf form (log_of m ++ admitted_of xs) (told_of n)
   told_ran m n [] ready its_log h = subst (λ (z : KeptMachine K D V). IsFeedOf form (log_of m ++ []) (told_of z)) (sym h) (all_fed form m ready its_log)
   told_ran m n (x ∷ xs) ready its_log h =
-      let one = subst (λ (o : Option KeptFault). TakesBy form is_told seen may_leave moment left_since has_failed o m x.letter x.answer h.0) ready.goes_on h.1 in
+      let one = subst (λ (o : Option KeptFault). TakesBy form device o m x.letter x.answer h.0) ready.goes_on h.1 in
       one_fed m h.0 n xs x.sender x.letter x.answer ready its_log one h.2 (λ on log. told_ran h.0 n xs on log h.2)

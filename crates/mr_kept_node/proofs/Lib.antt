@@ -1,6 +1,5 @@
 -- lemmas
 pub mod Names
-pub mod Asking
 pub mod Replying
 pub mod Taking
 pub mod Stepping

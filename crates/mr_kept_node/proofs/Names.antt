@@ -9,19 +9,20 @@ pub use Rattle.mr_journal.proofs.Moments.{joined, started, widened}
 pub use Rattle.mr_journal.specs.Device.{LeavesOnly}
 pub use Rattle.mr_journal.specs.Format.{Stands}
 pub use Rattle.mr_journal.specs.Journal.{device_of}
+pub use Rattle.mr_journal.specs.declared.device.Device.{Ghosts as DeviceOf}
 pub use Rattle.mr_kept.proofs.EntryLemmas.{events_append, notes_append}
 pub use Rattle.mr_kept.proofs.KeptLemmas.{kept_on, stands_now}
 pub use Rattle.mr_kept.proofs.LeftLemmas.{head_on, left_now, same_notes}
 pub use Rattle.mr_kept.proofs.OpenLemmas.{no_note_waits}
 pub use Rattle.mr_kept.specs.Entries.{batch_entries, notes_of}
-pub use Rattle.mr_kept.specs.Kept.{AtOnce, IsKept, Later, SameJournal, StaysBack, entries_waiting, head_of, issued_of, journal_of, kept_of, leaving}
+pub use Rattle.mr_kept.specs.Kept.{Asks, IsKept, SameJournal, StaysBack, entries_waiting, head_of, issued_of, journal_of, kept_of, leaving}
 pub use Rattle.mr_kept.specs.Kept.{notes_waiting, nothing_waits, replica_of, waiting}
 pub use Rattle.mr_kept.specs.Whole.{HasLog, IsOf}
 pub use Rattle.mr_kept.specs.declared.fault.KeptFault.{KeptFault}
 pub use Rattle.mr_kept.specs.declared.fault.KeptFault.TheVariants.{Failed}
 pub use Rattle.mr_kept.specs.declared.journaled.Journaled.{Journaled}
 pub use Rattle.mr_kept_node.specs.Keeping.{Commits, LeavesLog, device_under, entries_with}
-pub use Rattle.mr_kept_node.specs.Letter.{Asked, Turned, at_once, held_back, held_by, refusal_of}
+pub use Rattle.mr_kept_node.specs.Letter.{Asked, Turned, refusal_of}
 pub use Rattle.mr_kept_node.specs.Machine.{Declined, Goes, Kept, Stopped, Takes, TakesBy, machine_of, told_of}
 pub use Rattle.mr_kept_node.specs.Node.{EndsUnkept, IsFeedOf, KeepsEvents, KeptNodeRan, Passed, SafeSince, TellsBetween, in_machine, log_of}
 pub use Rattle.mr_kept_node.specs.declared.machine.KeptMachine.{KeptMachine}
@@ -37,4 +38,4 @@ pub use Rattle.mr_replica.specs.declared.refusal.Refusal.TheVariants.{OutOfMemor
 pub use Rattle.mr_threads.specs.Exchange.{Replays}
 pub use Rattle.std.proofs.lemmas.Bool.{false≢true, leb-true}
 pub use Rattle.std.proofs.lemmas.List.{append-nil, drop-append-le, drop_all, take_all}
-pub use Rattle.std.specs.Prelude.{IfErr, IfOk, IfSome, IsTrue, MatchOption, is_some, map, nat_le}
+pub use Rattle.std.specs.Prelude.{IfSome, IsTrue, MatchBool, MatchOption, is_some, map, nat_le}

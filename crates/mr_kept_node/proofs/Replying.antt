@@ -1,47 +1,44 @@
--- The reply to a letter: the one that is known at once, or else the last that the commit hands out.
-use Rattle.std.proofs.Common.{◌≡◌, ◌≢◌, ◌⊎◌, ⊎_elim, inl, inr, false, List, [], ◌∷◌, ◌++◌, Option, Some, None, refl, sym, ap, ◌∙◌}
-use Rattle.mr_kept_node.proofs.Names.{Event, IfSome, Reply, at_once, held_back, held_by, is_some}
-use Rattle.mr_replica.specs.declared.event.Event.TheVariants.{Create, Edit, Pull, Next, Vouch, Answer, Receive, CutIn, CutOut, Release, Retire}
+-- The reply to a letter: the one that was given at once, or else the last that the commit hands out.
+use Rattle.std.proofs.Common.{◌≡◌, ◌≢◌, Bool, false, List, [], ◌∷◌, ◌++◌, Option, Some, None, Ok, refl, sym, ap, subst, ◌∙◌}
+use Rattle.mr_kept_node.proofs.Names.{Asked, Asks, Event, Form, IfSome, Journaled, MatchBool, Reply, SameJournal, is_some, leaving}
 
--- ---- known at once
+-- the reply was given, or it is the last of those that are held back
+abbrev pub IsReplied : Option Reply → (before after : List Reply) → Reply → Type 0
+IsReplied None before after reply = after ≡ before ++ reply ∷ []
+IsReplied (Some given) before after reply = given ≡ reply
 
-once : (letter : Event) (reply : Reply) → (at_once letter reply ≡ None) ⊎ (at_once letter reply ≡ Some reply)
-once (Create message) reply = inl refl
-once (Edit bases message) reply = inl refl
-once Pull reply = inl refl
-once (Next stream) reply = inl refl
-once (Vouch version) reply = inl refl
-once (Answer ask) reply = inr refl
-once (Receive frame) reply = inr refl
-once (CutIn session) reply = inr refl
-once (CutOut stream) reply = inr refl
-once (Release receipt) reply = inr refl
-once Retire reply = inr refl
-
-abbrev reply_in : Reply → Option Reply → Reply
-reply_in other None = other
-reply_in other (Some reply) = reply
-
-same_reply : (letter : Event) (reply known : Reply) → Some known ≡ at_once letter reply → known ≡ reply
-same_reply letter reply known is =
-    ⊎_elim (λ none. absurd (let no : ◌≡◌ {A = Option Reply} (Some known) None = is ∙ none in cc)) (λ some. ap (reply_in reply) (is ∙ some)) (once letter reply)
-
--- ---- held back
-
-no_reply : (now : Option Reply) → is_some now ≡ false → now ≡ None
-no_reply None none = refl
-no_reply (Some reply) none = absurd (cc)
-
-held_none : (letter : Event) (reply : Reply) (now : Option Reply) → now ≡ at_once letter reply → is_some now ≡ false → held_back letter reply ≡ reply ∷ []
-held_none letter reply now is none = ap (λ (o : Option Reply). held_by o reply) (sym is ∙ no_reply now none)
+module _ {K D V : Type 0} (form : Form K) (old mid : Journaled K D V) (letter : Event) where
+  -- a letter that was taken was admitted, and so it has a reply
+  pub asked_by : (now : Option Reply) → Asks form old letter (Ok now) mid → SameJournal old mid → (reply : Reply) × Asked form old letter reply mid × IsReplied now (leaving old) (leaving mid) reply
+  asked_by None h same = (
+    h.1.0,
+    record {
+      may_keep = h.1.1.0;
+      steps = h.1.1.1;
+      journal = same;
+      held = subst (λ (b : Bool). MatchBool b (leaving mid ≡ leaving old ++ h.1.0 ∷ []) (leaving mid ≡ leaving old)) (sym h.0) h.1.2;
+    },
+    h.1.2,
+  )
+  asked_by (Some reply) h same = (
+    reply,
+    record {
+      may_keep = h.1.0.0;
+      steps = h.1.0.1;
+      journal = same;
+      held = subst (λ (b : Bool). MatchBool b (leaving mid ≡ leaving old ++ reply ∷ []) (leaving mid ≡ leaving old)) (sym h.0) h.1.1;
+    },
+    refl,
+  )
 
 not_empty : (before : List Reply) (reply : Reply) → before ++ reply ∷ [] ≢ []
 not_empty [] reply h = cc
 not_empty (x ∷ xs) reply h = cc
 
--- where the reply isn't known at once, something was handed out
-pub handed : (letter : Event) (reply : Reply) (now : Option Reply) (before items : List Reply) → now ≡ at_once letter reply → items ≡ before ++ held_back letter reply → is_some now ≡ false → items ≢ []
-handed letter reply now before items is so none empty = not_empty before reply (sym (so ∙ ap (λ (l : List Reply). before ++ l) (held_none letter reply now is none)) ∙ empty)
+-- where the reply wasn't given, something was handed out
+pub handed : (now : Option Reply) (before after items : List Reply) (reply : Reply) → IsReplied now before after reply → items ≡ after → is_some now ≡ false → items ≢ []
+handed None before after items reply is so none empty = not_empty before reply (sym (so ∙ is) ∙ empty)
+handed (Some given) before after items reply is so none empty = absurd (cc)
 
 abbrev last_of : Reply → List Reply → Reply
 last_of other [] = other
@@ -51,10 +48,10 @@ last_is : (other : Reply) (before : List Reply) (reply : Reply) → last_of othe
 last_is other [] reply = refl
 last_is other (x ∷ xs) reply = last_is x xs reply
 
--- what is given is the reply
-pub reply_given : (letter : Event) (reply given : Reply) (now : Option Reply) (before items : List Reply) → now ≡ at_once letter reply → items ≡ before ++ held_back letter reply
-    → IfSome now (λ known. given ≡ known) → (is_some now ≡ false → (front : List Reply) × (items ≡ front ++ given ∷ [])) → given ≡ reply
-reply_given letter reply given None before items is so some none =
+-- what is answered is the reply
+pub reply_given : (reply answer : Reply) (now : Option Reply) (before after items : List Reply) → IsReplied now before after reply → items ≡ after
+    → IfSome now (λ given. answer ≡ given) → (is_some now ≡ false → (front : List Reply) × (items ≡ front ++ answer ∷ [])) → answer ≡ reply
+reply_given reply answer None before after items is so some none =
     let last = none refl in
-    sym (last_is given last.0 given) ∙ ap (last_of given) (sym last.1 ∙ so ∙ ap (λ (l : List Reply). before ++ l) (held_none letter reply None is refl)) ∙ last_is given before reply
-reply_given letter reply given (Some known) before items is so some none = some ∙ same_reply letter reply known is
+    sym (last_is answer last.0 answer) ∙ ap (last_of answer) (sym last.1 ∙ so ∙ is) ∙ last_is answer before reply
+reply_given reply answer (Some given) before after items is so some none = some ∙ is

@@ -1,6 +1,6 @@
 -- Letter by letter: the log, and where a machine stops.
 use Rattle.std.proofs.Common.{◌≡◌, ⊎_elim, ℕ, Bool, true, List, [], ◌∷◌, ◌++◌, length, Option, Some, None, Result, Ok, Err, refl, sym, ap, subst, ◌∙◌, append_assoc}
-use Rattle.mr_kept_node.proofs.Names.{Declined, EndsUnkept, Event, Form, Goes, Kept, KeptFault, KeptMachine, MatchOption, OutOfMemory, Passed, Refusal}
+use Rattle.mr_kept_node.proofs.Names.{Declined, DeviceOf, EndsUnkept, Event, Form, Goes, Kept, KeptFault, KeptMachine, MatchOption, OutOfMemory, Passed, Refusal}
 use Rattle.mr_kept_node.proofs.Names.{Replays, Reply, Sender, State, Stopped, Takes, TakesBy, admitted_of, append-nil, head_of, log_of, nothing_waits}
 use Rattle.mr_kept_node.proofs.Names.{replica_of}
 use Rattle.mr_kept_node.proofs.Stepping.{Ready, declined_same, kept_log, passed, ready_declined, ready_kept, rests, stopped_log}
@@ -47,33 +47,33 @@ module _ {K D V : Type 0} where
     ends = match_none _ _ m.fault ready.goes_on (refl, ready.none_waits, ready.told);
   })
 
-module _ {K D V : Type 0} (form : Form K) (is_told : Bool) (seen : D → List ℕ) (may_leave : D → List ℕ → Type 0) (moment : D → ℕ) (left_since : D → ℕ → List ℕ → Type 0) (has_failed : D → Bool) where
-  kept_ran : (m t n : KeptMachine K D V) (xs : List Passed) (sender : Sender) (letter : Event) (reply : Reply) → Kept form is_told seen may_leave moment left_since has_failed m letter reply t → LogRan t xs n
+module _ {K D V : Type 0} (form : Form K) (device : DeviceOf D) where
+  kept_ran : (m t n : KeptMachine K D V) (xs : List Passed) (sender : Sender) (letter : Event) (reply : Reply) → Kept form device m letter reply t → LogRan t xs n
       → LogRan m (passed sender letter (Ok reply) ∷ xs) n
   kept_ran m t n xs sender letter reply h rest = record {
     unkept = rest.unkept;
-    log = rest.log ∙ ap (λ (l : List Event). (l ++ admitted_of xs) ++ rest.unkept) (kept_log form is_told seen may_leave moment left_since has_failed m t letter reply h)
+    log = rest.log ∙ ap (λ (l : List Event). (l ++ admitted_of xs) ++ rest.unkept) (kept_log form device m t letter reply h)
         ∙ ap (λ (l : List Event). l ++ rest.unkept) (append_assoc (log_of m) (letter ∷ []) (admitted_of xs));
     head = rest.head ∙ h.head;
     ends = match_on _ _ _ n.fault (ends_later (passed sender letter (Ok reply)) xs rest.unkept) rest.ends;
   }
 
-  declined_ran : (m t n : KeptMachine K D V) (xs : List Passed) (sender : Sender) (letter : Event) (e : Refusal) → Declined form is_told seen may_leave moment left_since has_failed m letter e t → LogRan t xs n
+  declined_ran : (m t n : KeptMachine K D V) (xs : List Passed) (sender : Sender) (letter : Event) (e : Refusal) → Declined form device m letter e t → LogRan t xs n
       → LogRan m (passed sender letter (Err e) ∷ xs) n
   declined_ran m t n xs sender letter e h rest = record {
     unkept = rest.unkept;
-    log = rest.log ∙ ap (λ (s : State K). (s.log ++ admitted_of xs) ++ rest.unkept) (declined_same form is_told seen may_leave moment left_since has_failed m t letter e h);
+    log = rest.log ∙ ap (λ (s : State K). (s.log ++ admitted_of xs) ++ rest.unkept) (declined_same form device m t letter e h);
     head = rest.head ∙ h.turned.journal.head;
     ends = match_on _ _ _ n.fault (ends_later (passed sender letter (Err e)) xs rest.unkept) rest.ends;
   }
 
-  stopped_ran : (m t n : KeptMachine K D V) (xs : List Passed) (sender : Sender) (letter : Event) (e : Refusal) → e ≡ OutOfMemory → Stopped form is_told seen may_leave moment left_since has_failed m letter t
-      → Replays (Takes form is_told seen may_leave moment left_since has_failed) t xs n → LogRan m (passed sender letter (Err e) ∷ xs) n
+  stopped_ran : (m t n : KeptMachine K D V) (xs : List Passed) (sender : Sender) (letter : Event) (e : Refusal) → e ≡ OutOfMemory → Stopped form device m letter t
+      → Replays (Takes form device) t xs n → LogRan m (passed sender letter (Err e) ∷ xs) n
   stopped_ran m t n xs sender letter e is h replays =
-      let rest = rests form is_told seen may_leave moment left_since has_failed t n xs h.fault h.stops replays in
+      let rest = rests form device t n xs h.fault h.stops replays in
       record {
         unkept = letter ∷ [];
-        log = ap log_of rest.same ∙ stopped_log form is_told seen may_leave moment left_since has_failed m t letter h
+        log = ap log_of rest.same ∙ stopped_log form device m t letter h
             ∙ ap (λ (l : List Event). l ++ letter ∷ []) (sym (append-nil (log_of m)) ∙ ap (λ (l : List Event). log_of m ++ l) (sym rest.none_admitted));
         head = ap (λ (z : KeptMachine K D V). head_of z.journaled) rest.same ∙ h.head ∙ h.asked.journal.head;
         ends = match_some _ _ n.fault h.fault (ap (λ (z : KeptMachine K D V). z.fault) rest.same ∙ h.stops) (record {
@@ -86,17 +86,17 @@ module _ {K D V : Type 0} (form : Form K) (is_told : Bool) (seen : D → List �
         });
       }
 
-  one_ran : (m t n : KeptMachine K D V) (xs : List Passed) (sender : Sender) (letter : Event) (answer : Result Reply Refusal) → Ready m → Goes form is_told seen may_leave moment left_since has_failed m letter answer t
-      → Replays (Takes form is_told seen may_leave moment left_since has_failed) t xs n → (Ready t → LogRan t xs n) → LogRan m (passed sender letter answer ∷ xs) n
+  one_ran : (m t n : KeptMachine K D V) (xs : List Passed) (sender : Sender) (letter : Event) (answer : Result Reply Refusal) → Ready m → Goes form device m letter answer t
+      → Replays (Takes form device) t xs n → (Ready t → LogRan t xs n) → LogRan m (passed sender letter answer ∷ xs) n
   one_ran m t n xs sender letter (Ok reply) ready h replays rest =
-      kept_ran m t n xs sender letter reply h (rest (ready_kept form is_told seen may_leave moment left_since has_failed m t letter reply h))
+      kept_ran m t n xs sender letter reply h (rest (ready_kept form device m t letter reply h))
   one_ran m t n xs sender letter (Err e) ready h replays rest = ⊎_elim
-      (λ same. declined_ran m t n xs sender letter e same (rest (ready_declined form is_told seen may_leave moment left_since has_failed m t letter e ready same)))
+      (λ same. declined_ran m t n xs sender letter e same (rest (ready_declined form device m t letter e ready same)))
       (λ stop. stopped_ran m t n xs sender letter e stop.0 stop.1 replays)
       h
 
-  pub log_ran : (m n : KeptMachine K D V) (xs : List Passed) → Ready m → Replays (Takes form is_told seen may_leave moment left_since has_failed) m xs n → LogRan m xs n
+  pub log_ran : (m n : KeptMachine K D V) (xs : List Passed) → Ready m → Replays (Takes form device) m xs n → LogRan m xs n
   log_ran m n [] ready h = none_ran m n ready h
   log_ran m n (x ∷ xs) ready h =
-      let one = subst (λ (o : Option KeptFault). TakesBy form is_told seen may_leave moment left_since has_failed o m x.letter x.answer h.0) ready.goes_on h.1 in
+      let one = subst (λ (o : Option KeptFault). TakesBy form device o m x.letter x.answer h.0) ready.goes_on h.1 in
       one_ran m h.0 n xs x.sender x.letter x.answer ready one h.2 (λ on. log_ran h.0 n xs on h.2)

@@ -1,6 +1,6 @@
 -- A machine that goes on, and one that has stopped.
 use Rattle.std.proofs.Common.{◌≡◌, ◌≤◌, ◌==◌, ◌&&◌, ℕ, Bool, true, false, List, [], ◌∷◌, ◌++◌, length, Option, Some, None, Result, Ok, Err, refl, sym, ap, subst, ◌∙◌}
-use Rattle.mr_kept_node.proofs.Names.{Declined, Entry, Event, Form, IsKept, Journaled, Kept, KeptFault, KeptMachine, NoteParts, OutOfMemory, Passed, Refusal}
+use Rattle.mr_kept_node.proofs.Names.{Declined, DeviceOf, Entry, Event, Form, IsKept, Journaled, Kept, KeptFault, KeptMachine, NoteParts, OutOfMemory, Passed, Refusal}
 use Rattle.mr_kept_node.proofs.Names.{Replays, Reply, Sender, State, Stopped, Takes, TakesBy, admitted_of, append-nil, drop_all, entries_with, events_append}
 use Rattle.mr_kept_node.proofs.Names.{events_of, false≢true, issued_of, kept_of, leb-true, log_of, nat_le, no_note_waits, notes_append, notes_of}
 use Rattle.mr_kept_node.proofs.Names.{notes_waiting, nothing_waits, replica_of, step_log, take_all, waiting}
@@ -58,17 +58,17 @@ module _ {K D V : Type 0} where
     pub none_waits : nothing_waits m.journaled ≡ true
     pub told : m.told ≡ length (replica_of m.journaled).feed
 
-module _ {K D V : Type 0} (form : Form K) (is_told : Bool) (seen : D → List ℕ) (may_leave : D → List ℕ → Type 0) (moment : D → ℕ) (left_since : D → ℕ → List ℕ → Type 0) (has_failed : D → Bool) where
-  pub ready_kept : (m t : KeptMachine K D V) (letter : Event) (reply : Reply) → Kept form is_told seen may_leave moment left_since has_failed m letter reply t → Ready t
+module _ {K D V : Type 0} (form : Form K) (device : DeviceOf D) where
+  pub ready_kept : (m t : KeptMachine K D V) (letter : Event) (reply : Reply) → Kept form device m letter reply t → Ready t
   ready_kept m t letter reply h = record { goes_on = h.goes_on; none_waits = h.none_waits; told = h.told }
 
-  pub kept_log : (m t : KeptMachine K D V) (letter : Event) (reply : Reply) → Kept form is_told seen may_leave moment left_since has_failed m letter reply t → log_of t ≡ log_of m ++ letter ∷ []
+  pub kept_log : (m t : KeptMachine K D V) (letter : Event) (reply : Reply) → Kept form device m letter reply t → log_of t ≡ log_of m ++ letter ∷ []
   kept_log m t letter reply h = step_log form (replica_of m.journaled) (replica_of t.journaled) letter (Ok reply) h.steps
 
-  pub declined_same : (m t : KeptMachine K D V) (letter : Event) (e : Refusal) → Declined form is_told seen may_leave moment left_since has_failed m letter e t → replica_of t.journaled ≡ replica_of m.journaled
+  pub declined_same : (m t : KeptMachine K D V) (letter : Event) (e : Refusal) → Declined form device m letter e t → replica_of t.journaled ≡ replica_of m.journaled
   declined_same m t letter e h = turned_same form m.journaled t.journaled letter h.fault h.turned
 
-  pub ready_declined : (m t : KeptMachine K D V) (letter : Event) (e : Refusal) → Ready m → Declined form is_told seen may_leave moment left_since has_failed m letter e t → Ready t
+  pub ready_declined : (m t : KeptMachine K D V) (letter : Event) (e : Refusal) → Ready m → Declined form device m letter e t → Ready t
   ready_declined m t letter e ready h =
       let same = declined_same m t letter e h in
       let old : Journaled K D V = m.journaled in
@@ -83,7 +83,7 @@ module _ {K D V : Type 0} (form : Form K) (is_told : Bool) (seen : D → List �
         told = h.told ∙ ready.told ∙ ap (λ (s : State K). length s.feed) (sym same);
       }
 
-  pub stopped_log : (m t : KeptMachine K D V) (letter : Event) → Stopped form is_told seen may_leave moment left_since has_failed m letter t → log_of t ≡ log_of m ++ letter ∷ []
+  pub stopped_log : (m t : KeptMachine K D V) (letter : Event) → Stopped form device m letter t → log_of t ≡ log_of m ++ letter ∷ []
   stopped_log m t letter h =
       ap (λ (s : State K). s.log) h.replica ∙ step_log form (replica_of m.journaled) (replica_of h.asked_of) letter (Ok h.reply) h.asked.steps
 
@@ -95,10 +95,10 @@ module _ {K D V : Type 0} (form : Form K) (is_told : Bool) (seen : D → List �
     pub none_admitted : admitted_of xs ≡ []
     pub refused : AllByRecursion (λ (x : Passed). x.answer ≡ Err OutOfMemory) xs
 
-  pub rests : (m n : KeptMachine K D V) (xs : List Passed) (fault : KeptFault) → m.fault ≡ Some fault → Replays (Takes form is_told seen may_leave moment left_since has_failed) m xs n → Rests m xs n
+  pub rests : (m n : KeptMachine K D V) (xs : List Passed) (fault : KeptFault) → m.fault ≡ Some fault → Replays (Takes form device) m xs n → Rests m xs n
   rests m n [] fault is h = record { same = h; none_admitted = refl; refused = tt }
   rests m n (x ∷ xs) fault is h =
-      let one = subst (λ (o : Option KeptFault). TakesBy form is_told seen may_leave moment left_since has_failed o m x.letter x.answer h.0) is h.1 in
+      let one = subst (λ (o : Option KeptFault). TakesBy form device o m x.letter x.answer h.0) is h.1 in
       let rest = rests h.0 n xs fault (ap (λ (z : KeptMachine K D V). z.fault) one.1 ∙ is) h.2 in
       record {
         same = rest.same ∙ one.1;

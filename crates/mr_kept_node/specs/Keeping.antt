@@ -4,6 +4,7 @@ use Rattle.mr_forms.specs.Known.{Form}
 use Rattle.mr_journal.specs.Device.{LeavesOnly}
 use Rattle.mr_journal.specs.Format.{Stands}
 use Rattle.mr_journal.specs.Journal.{device_of}
+use Rattle.mr_journal.specs.declared.device.Device.{Ghosts as DeviceOf}
 use Rattle.mr_entry.specs.Spelling.{entry_bytes}
 use Rattle.mr_entry.specs.declared.entry.Entry.{Entry}
 use Rattle.mr_replica.specs.declared.event.Event.{Event}
@@ -21,17 +22,17 @@ module _ {K D V : Type 0} where
   abbrev pub device_under : Journaled K D V → D
   device_under j = device_of (journal_of j)
 
-module _ {K D V : Type 0} (form : Form K) (is_told : Bool) (seen : D → List ℕ) (may_leave : D → List ℕ → Type 0) (moment : D → ℕ) (left_since : D → ℕ → List ℕ → Type 0) where
+module _ {K D V : Type 0} (form : Form K) (device : DeviceOf D) where
   -- what a crash at any moment between leaves: the entries from before, or those and all that waited with the letter; and so a journal that has the log of a replica, which opens again, and the notes from before, or those and all that waited
   pub record LeavesLog (entries : List Entry) (old : Journaled K D V) (letter : Event) (new : Journaled K D V) : Type 0 where
-    pub any_moment : LeavesOnly moment left_since (device_under old) (device_under new) (λ c. Stands (map entry_bytes entries) c ⊎ Stands (map entry_bytes (entries ++ entries_with old letter)) c)
-    pub left : IsOf (head_of old) (replica_of old) → LeavesOnly moment left_since (device_under old) (device_under new)
+    pub any_moment : LeavesOnly device.moment device.left_since (device_under old) (device_under new) (λ c. Stands (map entry_bytes entries) c ⊎ Stands (map entry_bytes (entries ++ entries_with old letter)) c)
+    pub left : IsOf (head_of old) (replica_of old) → LeavesOnly device.moment device.left_since (device_under old) (device_under new)
         (λ c. HasLog form c (head_of old) (notes_of entries) ⊎ HasLog form c (head_of old) (notes_of entries ++ notes_waiting old))
 
   -- A commit of the letter was begun, and this is what crashes leave of it.
   abbrev pub Commits : Journaled K D V → Event → Journaled K D V → Type 0
-  Commits old letter new = IsTrue is_told → (entries : List Entry) → IsKept seen may_leave entries old → LeavesLog entries old letter new
+  Commits old letter new = IsTrue device.is_told → (entries : List Entry) → IsKept device.seen device.may_leave entries old → LeavesLog entries old letter new
 
   -- It was made: the journal has the entries from before, and those of all that waited with the letter.
   abbrev pub Keeps : Journaled K D V → Event → Journaled K D V → Type 0
-  Keeps old letter new = IsTrue is_told → (entries : List Entry) → IsKept seen may_leave entries old → IsKept seen may_leave (entries ++ entries_with old letter) new
+  Keeps old letter new = IsTrue device.is_told → (entries : List Entry) → IsKept device.seen device.may_leave entries old → IsKept device.seen device.may_leave (entries ++ entries_with old letter) new

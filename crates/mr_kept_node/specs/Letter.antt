@@ -1,16 +1,15 @@
 -- a letter to a kept replica: what it is asked, and what comes of that before a commit
-use Rattle.std.specs.Prelude.{◌≡◌, ◌++◌, List, [], ◌∷◌, Option, Some, None, Ok, Err}
+use Rattle.std.specs.Prelude.{◌≡◌, ◌++◌, [], ◌∷◌, MatchBool, Ok, Err}
 use Rattle.mr_forms.specs.Known.{Form}
 use Rattle.mr_replica.specs.Step.{Steps}
 use Rattle.mr_replica.specs.declared.event.Event.{Event}
-use Rattle.mr_replica.specs.declared.event.Event.TheVariants.{Create, Edit, Pull, Next, Vouch}
 use Rattle.mr_replica.specs.declared.event.Reply.{Reply}
 use Rattle.mr_replica.specs.declared.refusal.Refusal.{Refusal}
 use Rattle.mr_replica.specs.declared.refusal.Refusal.TheVariants as refusal
-use Rattle.mr_kept.specs.Answered.{Answered, MayKeep}
+use Rattle.mr_kept.specs.Answered.{Answered, MayKeep, is_held_back}
 use Rattle.mr_kept.specs.Kept.{SameJournal, journal_of, leaving, replica_of}
 use Rattle.mr_kept.specs.declared.fault.KeptFault.{KeptFault}
-use Rattle.mr_kept.specs.declared.fault.KeptFault.TheVariants.{OutOfMemory, Refused, Failed, TooLarge}
+use Rattle.mr_kept.specs.declared.fault.KeptFault.TheVariants.{OutOfMemory, Refused, Failed, TooLarge, Unsettled}
 use Rattle.mr_kept.specs.declared.journaled.Journaled.{Journaled}
 
 -- The refusal that a fault is answered by: the replica's own or, where the machine is at fault and not the letter, that of memory.
@@ -19,31 +18,15 @@ refusal_of OutOfMemory = refusal.OutOfMemory
 refusal_of (Refused e) = e
 refusal_of Failed = refusal.OutOfMemory
 refusal_of TooLarge = refusal.OutOfMemory
-
--- the reply, if it is known before the commit: those of a Create, an Edit, a Pull, a Next and a Vouch are not
-abbrev pub at_once : Event → Reply → Option Reply
-at_once (Create message) reply = None
-at_once (Edit bases message) reply = None
-at_once Pull reply = None
-at_once (Next stream) reply = None
-at_once (Vouch version) reply = None
-at_once letter reply = Some reply
-
--- else the commit hands it out
-abbrev pub held_by : Option Reply → Reply → List Reply
-held_by None reply = reply ∷ []
-held_by (Some now) reply = []
-
-abbrev pub held_back : Event → Reply → List Reply
-held_back letter reply = held_by (at_once letter reply) reply
+refusal_of Unsettled = refusal.OutOfMemory
 
 module _ {K D V : Type 0} (form : Form K) where
-  -- The letter was admitted, as one that can be kept, and waits for the commit.
+  -- The letter was admitted, as one that can be kept, and waits for the commit; and so does its reply, where that may leave.
   pub record Asked (old : Journaled K D V) (letter : Event) (reply : Reply) (new : Journaled K D V) : Type 0 where
     pub may_keep : MayKeep (journal_of old) letter
     pub steps : Steps form (replica_of old) letter (Ok reply) (replica_of new)
     pub journal : SameJournal old new
-    pub leaving_is : leaving new ≡ leaving old ++ held_back letter reply
+    pub held : MatchBool (is_held_back letter) (leaving new ≡ leaving old ++ reply ∷ []) (leaving new ≡ leaving old)
 
   -- It wasn't, for this fault, and nothing has changed.
   pub record Turned (old : Journaled K D V) (letter : Event) (fault : KeptFault) (new : Journaled K D V) : Type 0 where

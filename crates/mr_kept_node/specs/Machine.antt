@@ -2,6 +2,7 @@
 use Rattle.std.specs.Prelude.{◌≡◌, ◌≢◌, ◌⊎◌, [], ℕ, Bool, true, IsTrue, length, take, List, Option, Some, None, Result, Ok, Err}
 use Rattle.mr_forms.specs.Known.{Form}
 use Rattle.mr_feed.specs.declared.entry.Entry.{Entry}
+use Rattle.mr_journal.specs.declared.device.Device.{Ghosts as DeviceOf}
 use Rattle.mr_replica.specs.Step.{Steps}
 use Rattle.mr_replica.specs.declared.event.Event.{Event}
 use Rattle.mr_replica.specs.declared.event.Reply.{Reply}
@@ -26,7 +27,7 @@ module _ {K D V : Type 0} where
   abbrev pub told_of : KeptMachine K D V → List Entry
   told_of m = take m.told (replica_of m.journaled).feed
 
-module _ {K D V : Type 0} (form : Form K) (is_told : Bool) (seen : D → List ℕ) (may_leave : D → List ℕ → Type 0) (moment : D → ℕ) (left_since : D → ℕ → List ℕ → Type 0) (has_failed : D → Bool) where
+module _ {K D V : Type 0} (form : Form K) (device : DeviceOf D) where
   -- The letter was admitted, and is kept.
   pub record Kept (old : KeptMachine K D V) (letter : Event) (reply : Reply) (new : KeptMachine K D V) : Type 0 where
     pub may_keep : MayKeep (journal_of old.journaled) letter
@@ -36,8 +37,8 @@ module _ {K D V : Type 0} (form : Form K) (is_told : Bool) (seen : D → List �
     pub none_back : leaving new.journaled ≡ []
     pub goes_on : new.fault ≡ None
     pub told : new.told ≡ length (replica_of new.journaled).feed
-    pub keeps : Keeps form is_told seen may_leave moment left_since old.journaled letter new.journaled
-    pub commits : Commits form is_told seen may_leave moment left_since old.journaled letter new.journaled
+    pub keeps : Keeps form device old.journaled letter new.journaled
+    pub commits : Commits form device old.journaled letter new.journaled
 
   -- It was not admitted, and nothing has changed.
   pub record Declined (old : KeptMachine K D V) (letter : Event) (refusal : Refusal) (new : KeptMachine K D V) : Type 0 where
@@ -60,8 +61,8 @@ module _ {K D V : Type 0} (form : Form K) (is_told : Bool) (seen : D → List �
     pub head : head_of new.journaled ≡ head_of asked_of
     pub stays : StaysBack asked_of new.journaled
     pub unchanged : fault ≢ Failed → new.journaled ≡ asked_of
-    pub cause : IsTrue is_told → fault ≡ Failed → IsTrue (has_failed (device_under new.journaled))
-    pub commits : Commits form is_told seen may_leave moment left_since old.journaled letter new.journaled
+    pub cause : IsTrue device.is_told → fault ≡ Failed → IsTrue (device.has_failed (device_under new.journaled))
+    pub commits : Commits form device old.journaled letter new.journaled
 
   -- a machine that goes on takes the letter
   abbrev pub Goes : KeptMachine K D V → Event → Result Reply Refusal → KeptMachine K D V → Type 0

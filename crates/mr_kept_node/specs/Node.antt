@@ -5,6 +5,7 @@ use Rattle.mr_forms.specs.Known.{Form}
 use Rattle.mr_feed.specs.declared.entry.Entry.{Entry as FeedEntry}
 use Rattle.mr_journal.specs.Device.{LeavesOnly}
 use Rattle.mr_journal.specs.Format.{Stands}
+use Rattle.mr_journal.specs.declared.device.Device.{Ghosts as DeviceOf}
 use Rattle.mr_entry.specs.Events.{events_of}
 use Rattle.mr_entry.specs.Note.{NoteParts}
 use Rattle.mr_entry.specs.Spelling.{entry_bytes}
@@ -77,30 +78,30 @@ pub record EndsUnkept (exchanges : List Passed) (unkept : List Event) : Type 0 w
   pub unkept_is : unkept ≡ last.letter ∷ []
   pub refused : AllByRecursion (λ x. x.answer ≡ Err OutOfMemory) (last ∷ behind)
 
-module _ {K D V : Type 0} (form : Form K) (is_told : Bool) (seen : D → List ℕ) (may_leave : D → List ℕ → Type 0) (moment : D → ℕ) (left_since : D → ℕ → List ℕ → Type 0) (has_failed : D → Bool) where
+module _ {K D V : Type 0} (form : Form K) (device : DeviceOf D) where
   -- Between these exchanges and those the machine was in this state. What was told up to it is the feed of the log from the beginning with the events that were answered up to it; and a crash at any moment since then leaves a file that tells that log, at least, and at most the log at the end.
   pub record SafeSince (start : KeptMachine K D V) (before after : List Passed) (end : KeptMachine K D V) (notes : List NoteParts) : Type 0 where
     pub state : KeptMachine K D V
-    pub reached : Replays (Takes form is_told seen may_leave moment left_since has_failed) start before state
-    pub left_for : Replays (Takes form is_told seen may_leave moment left_since has_failed) state after end
+    pub reached : Replays (Takes form device) start before state
+    pub left_for : Replays (Takes form device) state after end
     pub told : IsFeedOf form (log_of start ++ admitted_of before) (told_of state)
-    pub leaves : LeavesOnly moment left_since (device_under state.journaled) (device_under end.journaled) (TellsBetween (log_of start ++ admitted_of before) (log_of end) notes)
+    pub leaves : LeavesOnly device.moment device.left_since (device_under state.journaled) (device_under end.journaled) (TellsBetween (log_of start ++ admitted_of before) (log_of end) notes)
 
   -- The journal had these entries at the beginning, and what it has since then.
   pub record KeepsLog (entries : List Entry) (start : KeptMachine K D V) (exchanges : List Passed) (end : KeptMachine K D V) : Type 0 where
     -- in the end those of the events that were answered are behind them, unless the device failed
-    pub ended : end.fault ≢ Some Failed → KeepsEvents seen may_leave entries (admitted_of exchanges) end.journaled
+    pub ended : end.fault ≢ Some Failed → KeepsEvents device.seen device.may_leave entries (admitted_of exchanges) end.journaled
     -- from each answer on a crash leaves what was answered by then
     pub since : (before after : List Passed) → exchanges ≡ before ++ after → SafeSince start before after end (notes_of entries)
     -- and at each moment a journal that opens again
-    pub left : IsOf (head_of start.journaled) (replica_of start.journaled) → LeavesOnly moment left_since (device_under start.journaled) (device_under end.journaled) (λ c. HasLog form c (head_of start.journaled) (notes_of entries))
+    pub left : IsOf (head_of start.journaled) (replica_of start.journaled) → LeavesOnly device.moment device.left_since (device_under start.journaled) (device_under end.journaled) (λ c. HasLog form c (head_of start.journaled) (notes_of entries))
 
   -- The same as of a node over a replica, where each answer was given by a machine that had kept it before. The log has grown by the letters that were not refused, and where a commit was refused by the one of it; what was told is the feed without that one.
   pub record KeptNodeRan {L M : Type 0} (first_tells : L → LinkView) (second_tells : M → LinkView) (closes : Sender → ℕ → Bool) (has_let : Sender → ℕ → Type 0) (parts : NodeParts (Journaled K D V) L M) (end : NodeEnd (KeptMachine K D V)) (first : L) (second : M) : Type 0 where
-    pub ran : NodeRan (Takes form is_told seen may_leave moment left_since has_failed) told_of first_tells second_tells closes has_let (in_machine parts) end first second
+    pub ran : NodeRan (Takes form device) told_of first_tells second_tells closes has_let (in_machine parts) end first second
     pub unkept : List Event
     pub log : log_of end.replica ≡ ((replica_of parts.replica).log ++ admitted_of ran.exchanges) ++ unkept
     pub feed : IsFeedOf form ((replica_of parts.replica).log ++ admitted_of ran.exchanges) (told_of end.replica)
     pub head : head_of end.replica.journaled ≡ head_of parts.replica
     pub all_kept : MatchOption end.replica.fault ((unkept ≡ []) × (nothing_waits end.replica.journaled ≡ true) × (end.replica.told ≡ length (replica_of end.replica.journaled).feed)) (λ _. EndsUnkept ran.exchanges unkept)
-    pub keeps : IsTrue is_told → (entries : List Entry) → IsKept seen may_leave entries parts.replica → KeepsLog entries (machine_of parts.replica) ran.exchanges end.replica
+    pub keeps : IsTrue device.is_told → (entries : List Entry) → IsKept device.seen device.may_leave entries parts.replica → KeepsLog entries (machine_of parts.replica) ran.exchanges end.replica

@@ -4,21 +4,21 @@ use Rattle.std.proofs.Common.{subst}
 use Rattle.std.proofs.Math.Seq.{take-length}
 use Rattle.mr_forms.specs.Known.{Form}
 use Rattle.mr_journal.specs.Format.{Stands}
+use Rattle.mr_journal.specs.declared.device.Device.{Ghosts as DeviceOf}
 use Rattle.mr_entry.specs.Spelling.{entry_bytes}
 use Rattle.mr_entry.specs.declared.entry.Entry.TheVariants as entry
 use Rattle.mr_lane.specs.declared.note.Sender.TheVariants.{User, FirstLink}
-use Rattle.mr_wire.specs.Frames.{Question}
 use Rattle.mr_replica.specs.declared.event.Event.{Event}
 use Rattle.mr_replica.specs.declared.event.Event.TheVariants.{Next, Pull, Retire}
 use Rattle.mr_replica.specs.declared.event.Reply.{Reply}
-use Rattle.mr_replica.specs.declared.event.Reply.TheVariants.{Asked, Done}
+use Rattle.mr_replica.specs.declared.event.Reply.TheVariants.{Done}
 use Rattle.mr_replica.specs.declared.refusal.Refusal.{Refusal}
 use Rattle.mr_replica.specs.declared.refusal.Refusal.TheVariants.{Gap, OutOfMemory}
 use Rattle.mr_kept.specs.Kept.{nothing_waits, replica_of}
 use Rattle.mr_kept.specs.declared.fault.KeptFault.{KeptFault}
 use Rattle.mr_kept.specs.declared.fault.KeptFault.TheVariants as kept
 use Rattle.mr_kept.specs.declared.journaled.Journaled.{Journaled}
-use Rattle.mr_kept_node.specs.Letter.{at_once, held_back, refusal_of}
+use Rattle.mr_kept_node.specs.Letter.{refusal_of}
 use Rattle.mr_kept_node.specs.Machine.{Takes, TakesBy, machine_of, told_of}
 use Rattle.mr_kept_node.specs.Node.{EndsUnkept, Passed, TellsBetween}
 use Rattle.mr_kept_node.specs.declared.machine.KeptMachine.{KeptMachine}
@@ -29,31 +29,24 @@ use Rattle.mr_kept_node.specs.declared.machine.KeptMachine.{KeptMachine}
 pub refused_row : refusal_of (kept.Refused Gap) ≡ Gap
 refused_row = refl
 
-pub other_row : map refusal_of (kept.OutOfMemory ∷ kept.Failed ∷ kept.TooLarge ∷ []) ≡ OutOfMemory ∷ OutOfMemory ∷ OutOfMemory ∷ []
+pub other_row : map refusal_of (kept.OutOfMemory ∷ kept.Failed ∷ kept.TooLarge ∷ kept.Unsettled ∷ []) ≡ OutOfMemory ∷ OutOfMemory ∷ OutOfMemory ∷ OutOfMemory ∷ []
 other_row = refl
-
--- the request of a Pull is held back for the commit; that a Retire is done is known at once
-pub held_row : (ask : Question) → (held_back Pull (Asked ask) ≡ Asked ask ∷ []) × (at_once Pull (Asked ask) ≡ None)
-held_row ask = (refl, refl)
-
-pub at_once_row : (held_back Retire Done ≡ []) × (at_once Retire Done ≡ Some Done)
-at_once_row = (refl, refl)
 
 -- ---- the machine
 
-module _ {K D V : Type 0} (form : Form K) (is_told : Bool) (seen : D → List ℕ) (may_leave : D → List ℕ → Type 0) (moment : D → ℕ) (left_since : D → ℕ → List ℕ → Type 0) (has_failed : D → Bool) where
+module _ {K D V : Type 0} (form : Form K) (device : DeviceOf D) where
   -- before the first letter all of the feed is told
   pub all_told_row : (j : Journaled K D V) → told_of (machine_of j) ≡ (replica_of j).feed
   all_told_row j = take-length (replica_of j).feed
 
   -- where there is a reply, nothing waits
-  pub reply_row : (m n : KeptMachine K D V) (letter : Event) (reply : Reply) → m.fault ≡ None → Takes form is_told seen may_leave moment left_since has_failed m letter (Ok reply) n → nothing_waits n.journaled ≡ true
-  reply_row m n letter reply is takes = (subst (λ (o : Option KeptFault). TakesBy form is_told seen may_leave moment left_since has_failed o m letter (Ok reply) n) is takes).none_waits
+  pub reply_row : (m n : KeptMachine K D V) (letter : Event) (reply : Reply) → m.fault ≡ None → Takes form device m letter (Ok reply) n → nothing_waits n.journaled ≡ true
+  reply_row m n letter reply is takes = (subst (λ (o : Option KeptFault). TakesBy form device o m letter (Ok reply) n) is takes).none_waits
 
   -- and a machine that has stopped gives none
-  pub stopped_row : (m n : KeptMachine K D V) (letter : Event) (reply : Reply) → m.fault ≡ Some kept.Failed → Takes form is_told seen may_leave moment left_since has_failed m letter (Ok reply) n → ⊥
+  pub stopped_row : (m n : KeptMachine K D V) (letter : Event) (reply : Reply) → m.fault ≡ Some kept.Failed → Takes form device m letter (Ok reply) n → ⊥
   stopped_row m n letter reply is takes =
-      let told = subst (λ (o : Option KeptFault). TakesBy form is_told seen may_leave moment left_since has_failed o m letter (Ok reply) n) is takes in
+      let told = subst (λ (o : Option KeptFault). TakesBy form device o m letter (Ok reply) n) is takes in
       let no : ◌≡◌ {A = Result Reply Refusal} (Ok reply) (Err OutOfMemory) = told.0 in cc
 
 -- ---- files

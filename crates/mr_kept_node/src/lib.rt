@@ -28,7 +28,6 @@
 //! core's loop, which takes a letter first, and then offers what `take` and `feed` gave.
 #![tactic(auto)]
 
-mod ask;
 mod machine;
 mod node;
 

@@ -5,7 +5,6 @@ ghost use Rattle.mr_kept_node.specs.Letter.{refusal_of};
 ghost use Rattle.mr_kept_node.specs.Machine.{Takes, machine_of, told_of};
 ghost use Rattle.mr_kept_node.specs.inner.Telling.{feed_grows};
 
-use crate::ask::ask;
 use mr_feed::Entry;
 use mr_forms::Knowledge;
 use mr_journal::Device;
@@ -47,17 +46,17 @@ impl<K: Knowledge, D: Device + Drop> KeptMachine<K, D> {
 }
 
 impl<K: Knowledge, D: Device + Drop> Machine<Event, Answer> for KeptMachine<K, D> {
-    ghost steps = { Takes K.form D.is_told D.seen D.may_leave D.moment D.left_since D.has_failed };
+    ghost steps = { Takes K.form D.Device };
 
     ghost feed_of = { told_of };
 
-    ghost feed_grows = { feed_grows K.form D.is_told D.seen D.may_leave D.moment D.left_since D.has_failed };
+    ghost feed_grows = { feed_grows K.form D.Device };
 
     fn take(&mut self, letter: Event) -> Answer {
         if self.fault.is_some() {
             return Err(Refusal::OutOfMemory);
         }
-        let now = match ask(&mut self.journaled, letter) {
+        let now = match self.journaled.ask(letter) {
             Ok(now) => now,
             Err(fault) => return Err(refusal_of(fault)),
         };
@@ -89,6 +88,7 @@ fn refusal_of(fault: KeptFault) -> Refusal
         KeptFault::Refused(refusal) => refusal,
         KeptFault::Failed => Refusal::OutOfMemory,
         KeptFault::TooLarge => Refusal::OutOfMemory,
+        KeptFault::Unsettled => Refusal::OutOfMemory,
     }
 }
 

@@ -49,7 +49,7 @@ pub fn run_kept_node<
     requires first_count { (L.tells parts.first_link.link).downs + 1 < 2 ^ 64 }
     requires second_count { (M.tells parts.second_link.link).downs + 1 < 2 ^ 64 }
     requires all_kept { nothing_waits parts.replica ≡ true }
-    ensures ran { IfOk result (λ r. KeptNodeRan K.form D.is_told D.seen D.may_leave D.moment D.left_since D.has_failed L.tells M.tells (G.closes gate.now) (G.has_let gate.now) parts r.0 r.1 r.2) }
+    ensures ran { IfOk result (λ r. KeptNodeRan K.form D.Device L.tells M.tells (G.closes gate.now) (G.has_let gate.now) parts r.0 r.1 r.2) }
     ensures hung_up { IfOk result (λ r. ((L.tells r.1).hung_up ≡ true) × ((M.tells r.2).hung_up ≡ true)) }
     ensures hung_up_last { IfOk result (λ r. IsHungUpLast L.tells L.hung_up_at parts.first_link.link r.1 × IsHungUpLast M.tells M.hung_up_at parts.second_link.link r.2) }
     ensures capacity { IfOk result (λ r. r.0.capacity ≡ capacity) }

@@ -1,7 +1,7 @@
 -- logs that grow by some events only
 use Rattle.std.proofs.Common.{◌≡◌, ◌+◌, ◌<◌, ℕ, List, [], ◌∷◌, ◌++◌, length, get_or, take, map, Option, Some, None, Result, Ok, Err, refl, sym, ap, subst, ◌∙◌, append_assoc, append-nil}
 use Rattle.mr_sync.proofs.Names.{AllByRecursion, Answered, AreFrames, Failed, Form, Frame, GrowsOnlyBy, GrowsOnlyByTheirs, Hello, IsRecordOf, Journal}
-use Rattle.mr_sync.proofs.Names.{KeptFault, Normal, Receive, Refused, Reply, State, TakesRecordOf, TakesRecords, TooLarge, Unpacks, append_cancel_left}
+use Rattle.mr_sync.proofs.Names.{KeptFault, Normal, Receive, Refused, Reply, State, TakesRecordOf, TakesRecords, TooLarge, Unpacks, Unsettled, append_cancel_left}
 use Rattle.mr_sync.proofs.Names.{map-append, option_map, some_is, step_refused, take_one}
 use Rattle.mr_replica.specs.declared.event.Event.{Event}
 use Rattle.mr_replica.proofs.Replaying.{step_log}
@@ -37,6 +37,7 @@ module _ {K : Type 0} (form : Form K) where
   refused_stays journal s event (Refused e) new h = step_refused form s event e new h.1
   refused_stays journal s event Failed new h = h.1
   refused_stays journal s event TooLarge new h = h.1
+  refused_stays journal s event Unsettled new h = absurd h
   refused_stays journal s event OutOfMemory new h = h
 
   pub answered_grows : {D : Type 0} (P : Event → Type 0) (journal : Journal D) (s : State K) (event : Event) (answer : Result Reply KeptFault) (new : State K) → Answered form journal s event answer new → P event → GrowsOnlyBy P s.log new.log

@@ -7,7 +7,7 @@ pub use Rattle.mr_journal.specs.declared.journal.Journal.{Journal}
 pub use Rattle.mr_kept.specs.Answered.{Answered, reply_by}
 pub use Rattle.mr_kept.specs.Kept.{head_of, journal_of, replica_of}
 pub use Rattle.mr_kept.specs.declared.fault.KeptFault.{KeptFault}
-pub use Rattle.mr_kept.specs.declared.fault.KeptFault.TheVariants.{Failed, Refused, TooLarge}
+pub use Rattle.mr_kept.specs.declared.fault.KeptFault.TheVariants.{Failed, Refused, TooLarge, Unsettled}
 pub use Rattle.mr_replica.proofs.Replies.{step_changes, step_refused}
 pub use Rattle.mr_replica.specs.State.{State}
 pub use Rattle.mr_replica.specs.declared.event.Event.TheVariants.{Answer, Pull, Receive, Release, Vouch}

@@ -5,12 +5,11 @@ use crate::events::message;
 use crate::office::{HERE, setup};
 use anyhow::{Result, bail};
 use mr_entry::Note;
-use mr_hosted::{Hosted, HostedFault};
+use mr_hosted::{Act, Hosted};
 use mr_itemset::SparingKnowledge;
 use mr_journal::{Device, DeviceFailed, MemoryDevice};
 use mr_kept::KeptFault;
-use mr_outbox::Act;
-use mr_replica::Reply;
+use mr_replica::{Event, Reply};
 use std::alloc::Global;
 
 /// A replica whose host writes.
@@ -85,26 +84,18 @@ fn tell_failed<R: Print + AllocGlobal>(rt: &R, bytes: &[u8]) -> Result<()> {
 /// The tablet writes its messages and a note, and has the host keep them.
 fn write(alloc: Global, tablet: &mut Tablet) -> Result<()> {
     for subject in SUBJECTS {
-        done(tablet.create(message(alloc, subject, "inbox")?))?;
+        let event = Event::Create(message(alloc, subject, "inbox")?);
+        done(tablet.ask(event))?;
     }
     done(tablet.note(Note::new(1, b"both".to_vec(alloc)?)))?;
-    commit(tablet)
+    done(tablet.commit())
 }
 
 /// What the tablet was asked, once it is done. A refusal is named in a function that owns nothing else.
-fn done(answer: Result<(), KeptFault>) -> Result<()> {
+fn done<T: Drop>(answer: Result<T, KeptFault>) -> Result<()> {
     match answer {
-        Ok(()) => Ok(()),
+        Ok(_) => Ok(()),
         Err(KeptFault::Refused(refusal)) => Err(refusal.into()),
-        Err(fault) => Err(fault.into()),
-    }
-}
-
-/// The tablet has its host keep what waits.
-fn commit(tablet: &mut Tablet) -> Result<()> {
-    match tablet.commit() {
-        Ok(()) => Ok(()),
-        Err(HostedFault::Kept(KeptFault::Refused(refusal))) => Err(refusal.into()),
         Err(fault) => Err(fault.into()),
     }
 }
@@ -138,7 +129,7 @@ fn issued(alloc: Global, replies: &[Reply]) -> Result<String> {
 fn refusal(alloc: Global, tablet: &mut Tablet) -> Result<String> {
     match tablet.commit() {
         Ok(()) => bail!("it commits"),
-        Err(HostedFault::Kept(KeptFault::Refused(refusal))) => Err(refusal.into()),
+        Err(KeptFault::Refused(refusal)) => Err(refusal.into()),
         Err(fault) => Ok(format!(in alloc; "{fault}")?),
     }
 }

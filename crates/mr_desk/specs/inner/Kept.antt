@@ -1,4 +1,4 @@
--- what is told of an event that is taken
+-- an event of a replica whose host writes
 use Rattle.std.specs.Prelude.{Result, Ok, Err}
 use Rattle.mr_itemset.specs.Normal.{Normal}
 use Rattle.mr_kept.specs.declared.fault.KeptFault.{KeptFault}
@@ -6,11 +6,6 @@ use Rattle.mr_hosted.specs.declared.hosted.Hosted.{Hosted}
 use Rattle.mr_replica.specs.declared.event.Event.{Event}
 use Rattle.mr_desk.specs.declared.reply.Told.{Told}
 use Rattle.mr_desk.specs.Kept.{Stays, Goes, Refuses}
-
--- what is told, where the event was admitted
-abbrev pub told_where : {X : Type 0} → (X → Told) → Result X KeptFault → Result Told KeptFault
-told_where tells (Ok x) = Ok (tells x)
-told_where tells (Err e) = Err e
 
 module _ {V : Type 0} where
   -- an event is taken, or why it isn't; then all stays

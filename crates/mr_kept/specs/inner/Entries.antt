@@ -37,6 +37,7 @@ IsOfEvent issued stream nexts event kept.TooLarge = HasNoEntry issued stream nex
 IsOfEvent issued stream nexts event kept.OutOfMemory = Unit {0}
 IsOfEvent issued stream nexts event kept.Failed = ⊥
 IsOfEvent issued stream nexts event (kept.Refused _) = ⊥
+IsOfEvent issued stream nexts event kept.Unsettled = ⊥
 
 -- the fault of entries that can't be spelled: not all are in the grammar
 abbrev pub IsOfEntries : List Entry → KeptFault → Type 0
@@ -44,3 +45,4 @@ IsOfEntries entries kept.TooLarge = AllByRecursion IsEntry entries → ⊥
 IsOfEntries entries kept.OutOfMemory = Unit {0}
 IsOfEntries entries kept.Failed = ⊥
 IsOfEntries entries (kept.Refused _) = ⊥
+IsOfEntries entries kept.Unsettled = ⊥

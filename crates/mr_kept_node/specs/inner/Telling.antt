@@ -1,9 +1,10 @@
 -- What of a machine's feed may be told.
-use Rattle.std.proofs.Common.{◌≡◌, ⊎_elim, zero, suc, ℕ, Bool, List, [], ◌∷◌, ◌++◌, take, drop, Option, Some, None, Result, Ok, Err, refl, sym, ap, ◌∙◌, append_assoc, append-nil}
+use Rattle.std.proofs.Common.{◌≡◌, ⊎_elim, zero, suc, ℕ, List, [], ◌∷◌, ◌++◌, take, drop, Option, Some, None, Result, Ok, Err, refl, sym, ap, ◌∙◌, append_assoc, append-nil}
 use Rattle.std.proofs.lemmas.List.{take-append-drop}
 use Rattle.std.proofs.Math.Seq.{take-length}
 use Rattle.mr_forms.specs.Known.{Form}
 use Rattle.mr_feed.specs.declared.entry.Entry.{Entry}
+use Rattle.mr_journal.specs.declared.device.Device.{Ghosts as DeviceOf}
 use Rattle.mr_replica.specs.State.{State}
 use Rattle.mr_replica.specs.declared.event.Event.{Event}
 use Rattle.mr_replica.specs.declared.event.Reply.{Reply}
@@ -30,13 +31,14 @@ module _ {K D V : Type 0} (form : Form K) where
   turned_same old new letter (kept.Refused e) h = refused_same form (replica_of old) letter e (replica_of new) h.answered.1
   turned_same old new letter kept.Failed h = h.answered.1
   turned_same old new letter kept.TooLarge h = h.answered.1
+  turned_same old new letter kept.Unsettled h = absurd h.answered
 
   -- the same may be told of the same replica
   told_same : (old new : KeptMachine K D V) → replica_of new.journaled ≡ replica_of old.journaled → new.told ≡ old.told → told_of new ≡ told_of old
   told_same old new replica told = ap (λ (s : State K). take new.told s.feed) replica ∙ ap (λ (n : ℕ). take n (replica_of old.journaled).feed) told
 
-module _ {K D V : Type 0} (form : Form K) (is_told : Bool) (seen : D → List ℕ) (may_leave : D → List ℕ → Type 0) (moment : D → ℕ) (left_since : D → ℕ → List ℕ → Type 0) (has_failed : D → Bool) where
-  kept_grows : (s : KeptMachine K D V) (letter : Event) (reply : Reply) (t : KeptMachine K D V) → Kept form is_told seen may_leave moment left_since has_failed s letter reply t → (more : List Entry) × (told_of t ≡ told_of s ++ more)
+module _ {K D V : Type 0} (form : Form K) (device : DeviceOf D) where
+  kept_grows : (s : KeptMachine K D V) (letter : Event) (reply : Reply) (t : KeptMachine K D V) → Kept form device s letter reply t → (more : List Entry) × (told_of t ≡ told_of s ++ more)
   kept_grows s letter reply t h =
       let before : List Entry = (replica_of s.journaled).feed in
       let after : List Entry = (replica_of t.journaled).feed in
@@ -46,11 +48,11 @@ module _ {K D V : Type 0} (form : Form K) (is_told : Bool) (seen : D → List �
         all ∙ grown.1 ∙ ap (λ (l : List Entry). l ++ grown.0) (sym (take-append-drop s.told before)) ∙ append_assoc (take s.told before) (drop s.told before) grown.0,
       )
 
-  declined_grows : (s : KeptMachine K D V) (letter : Event) (e : Refusal) (t : KeptMachine K D V) → Declined form is_told seen may_leave moment left_since has_failed s letter e t → (more : List Entry) × (told_of t ≡ told_of s ++ more)
+  declined_grows : (s : KeptMachine K D V) (letter : Event) (e : Refusal) (t : KeptMachine K D V) → Declined form device s letter e t → (more : List Entry) × (told_of t ≡ told_of s ++ more)
   declined_grows s letter e t h =
       ([], told_same form s t (turned_same form s.journaled t.journaled letter h.fault h.turned) h.told ∙ sym (append-nil (told_of s)))
 
-  stopped_grows : (s : KeptMachine K D V) (letter : Event) (t : KeptMachine K D V) → Stopped form is_told seen may_leave moment left_since has_failed s letter t → (more : List Entry) × (told_of t ≡ told_of s ++ more)
+  stopped_grows : (s : KeptMachine K D V) (letter : Event) (t : KeptMachine K D V) → Stopped form device s letter t → (more : List Entry) × (told_of t ≡ told_of s ++ more)
   stopped_grows s letter t h =
       let before : List Entry = (replica_of s.journaled).feed in
       let grown = step_feed form (replica_of s.journaled) (replica_of h.asked_of) letter (Ok h.reply) h.asked.steps in
@@ -59,14 +61,14 @@ module _ {K D V : Type 0} (form : Form K) (is_told : Bool) (seen : D → List �
         ap (λ (z : State K). take t.told z.feed) h.replica ∙ ap (λ (n : ℕ). take n (replica_of h.asked_of).feed) h.told ∙ ap (take s.told) grown.1 ∙ first.1,
       )
 
-  goes_grows : (s : KeptMachine K D V) (letter : Event) (answer : Result Reply Refusal) (t : KeptMachine K D V) → Goes form is_told seen may_leave moment left_since has_failed s letter answer t → (more : List Entry) × (told_of t ≡ told_of s ++ more)
+  goes_grows : (s : KeptMachine K D V) (letter : Event) (answer : Result Reply Refusal) (t : KeptMachine K D V) → Goes form device s letter answer t → (more : List Entry) × (told_of t ≡ told_of s ++ more)
   goes_grows s letter (Ok reply) t h = kept_grows s letter reply t h
   goes_grows s letter (Err e) t h = ⊎_elim (λ same. declined_grows s letter e t same) (λ stop. stopped_grows s letter t stop.1) h
 
-  takes_grows : (fault : Option KeptFault) (s : KeptMachine K D V) (letter : Event) (answer : Result Reply Refusal) (t : KeptMachine K D V) → TakesBy form is_told seen may_leave moment left_since has_failed fault s letter answer t → (more : List Entry) × (told_of t ≡ told_of s ++ more)
+  takes_grows : (fault : Option KeptFault) (s : KeptMachine K D V) (letter : Event) (answer : Result Reply Refusal) (t : KeptMachine K D V) → TakesBy form device fault s letter answer t → (more : List Entry) × (told_of t ≡ told_of s ++ more)
   takes_grows None s letter answer t h = goes_grows s letter answer t h
   takes_grows (Some fault) s letter answer t h = ([], ap told_of h.1 ∙ sym (append-nil (told_of s)))
 
   -- a letter only adds to what was told
-  pub feed_grows : (s : KeptMachine K D V) (letter : Event) (answer : Result Reply Refusal) (t : KeptMachine K D V) → Takes form is_told seen may_leave moment left_since has_failed s letter answer t → (more : List Entry) × (told_of t ≡ told_of s ++ more)
+  pub feed_grows : (s : KeptMachine K D V) (letter : Event) (answer : Result Reply Refusal) (t : KeptMachine K D V) → Takes form device s letter answer t → (more : List Entry) × (told_of t ≡ told_of s ++ more)
   feed_grows s letter answer t h = takes_grows s.fault s letter answer t h

@@ -5,9 +5,9 @@ use Rattle.mr_kept.specs.Beginning.{IsBeginFault}
 use Rattle.mr_kept.specs.Kept.{journal_of}
 use Rattle.mr_kept.specs.Opening.{Begins}
 use Rattle.mr_kept.specs.declared.journaled.Journaled.{Journaled}
-use Rattle.mr_outbox.specs.Outbox.{file_of, left_since, may_leave}
-use Rattle.mr_outbox.specs.declared.act.Act.{Act}
-use Rattle.mr_outbox.specs.declared.outbox.Outbox.{Outbox}
+use Rattle.mr_hosted.specs.Outbox.{file_of, left_since, may_leave}
+use Rattle.mr_hosted.specs.declared.act.Act.{Act}
+use Rattle.mr_hosted.specs.declared.outbox.Outbox.{Outbox}
 use Rattle.mr_hosted.proofs.hosted.Hosted.begin.Goals as goal
 
 -- The acts began with none, so all moments are since the first.

@@ -5,9 +5,9 @@ use Rattle.mr_kept.specs.Opening.{GoesOn, Reopens}
 use Rattle.mr_kept.specs.Refusing.{IsOpenFault}
 use Rattle.mr_kept.specs.Whole.{ComesBack, HasLog, HasLogOf}
 use Rattle.mr_kept.specs.declared.journaled.Journaled.{Journaled}
-use Rattle.mr_outbox.specs.Outbox.{file_of, left_since, may_leave}
-use Rattle.mr_outbox.specs.declared.act.Act.{Act}
-use Rattle.mr_outbox.specs.declared.outbox.Outbox.{Outbox}
+use Rattle.mr_hosted.specs.Outbox.{file_of, left_since, may_leave}
+use Rattle.mr_hosted.specs.declared.act.Act.{Act}
+use Rattle.mr_hosted.specs.declared.outbox.Outbox.{Outbox}
 use Rattle.mr_hosted.proofs.hosted.Hosted.open.Goals as goal
 
 pub returns-in-Ok-clause-whole : goal.returns-in-Ok-clause-whole

@@ -11,7 +11,7 @@ returns-in_err-are_closed-clause-any_moment g c = λ told entries kept.
 pub returns-in_err-commit-clause-any_moment : goal.returns-in_err-commit-clause-any_moment
 returns-in_err-commit-clause-any_moment g c = λ told entries kept.
     let takes = c.in_ok-are_closed.ensures.takes in
-    moments_close entries c.args.self.now c.close_all.new.replica c.in_ok-are_closed.are_closed _ _ kept c.requires.waits takes (c.commit.ensures.any_moment told entries (kept_mid entries c.args.self.now _ c.in_ok-are_closed.are_closed kept takes))
+    moments_close entries c.args.self.now c.close_all.new.replica c.in_ok-are_closed.are_closed _ _ kept c.requires.waits takes (c.commit.ensures.leaves.any_moment told entries (kept_mid entries c.args.self.now _ c.in_ok-are_closed.are_closed kept takes))
 
 pub returns-clause-closed : goal.returns-clause-closed
 returns-clause-closed g c = λ all. closed_on c.close_all.new.replica _ c.commit.ensures.replica (c.in_ok-are_closed.ensures.closed all)
@@ -20,12 +20,12 @@ pub returns-clause-kept : goal.returns-clause-kept
 returns-clause-kept g c = λ told entries kept.
     let takes = c.in_ok-are_closed.ensures.takes in
     closed_in entries c.args.self.now c.close_all.new.replica c.commit.new.self c.in_ok-are_closed.are_closed kept c.requires.waits takes c.commit.ensures.replica
-    (c.in_ok-commit.ensures.kept told entries (kept_mid entries c.args.self.now _ c.in_ok-are_closed.are_closed kept takes))
+    (c.in_ok-commit.ensures.committed.kept told entries (kept_mid entries c.args.self.now _ c.in_ok-are_closed.are_closed kept takes))
 
 pub returns-clause-any_moment : goal.returns-clause-any_moment
 returns-clause-any_moment g c = λ told entries kept.
     let takes = c.in_ok-are_closed.ensures.takes in
-    moments_close entries c.args.self.now c.close_all.new.replica c.in_ok-are_closed.are_closed _ _ kept c.requires.waits takes (c.commit.ensures.any_moment told entries (kept_mid entries c.args.self.now _ c.in_ok-are_closed.are_closed kept takes))
+    moments_close entries c.args.self.now c.close_all.new.replica c.in_ok-are_closed.are_closed _ _ kept c.requires.waits takes (c.commit.ensures.leaves.any_moment told entries (kept_mid entries c.args.self.now _ c.in_ok-are_closed.are_closed kept takes))
 
 pub returns-in_err-are_closed-clause-left : goal.returns-in_err-are_closed-clause-left
 returns-in_err-are_closed-clause-left g c = λ told entries kept of.
@@ -37,7 +37,7 @@ returns-in_err-commit-clause-left g c = λ told entries kept of.
     let takes = c.in_ok-are_closed.ensures.takes in
     let mid = record c.args.self.now { replica = c.close_all.new.replica } in
     widened (λ file. HasLog g.K.Knowledge.form file (head_of c.args.self.now) (notes_of entries))
-    (c.commit.ensures.left told entries (kept_mid entries c.args.self.now _ c.in_ok-are_closed.are_closed kept takes) (head_on g.K.Knowledge.form (head_of c.args.self.now) c.args.self.now.replica c.close_all.new.replica takes.setting of))
+    (c.commit.ensures.leaves.left told entries (kept_mid entries c.args.self.now _ c.in_ok-are_closed.are_closed kept takes) (head_on g.K.Knowledge.form (head_of c.args.self.now) c.args.self.now.replica c.close_all.new.replica takes.setting of))
     (λ file here. same_notes g.K.Knowledge.form entries mid file (no_note_waits c.args.self.now c.requires.waits) here)
 
 pub returns-clause-left : goal.returns-clause-left
@@ -45,5 +45,5 @@ returns-clause-left g c = λ told entries kept of.
     let takes = c.in_ok-are_closed.ensures.takes in
     let mid = record c.args.self.now { replica = c.close_all.new.replica } in
     widened (λ file. HasLog g.K.Knowledge.form file (head_of c.args.self.now) (notes_of entries))
-    (c.commit.ensures.left told entries (kept_mid entries c.args.self.now _ c.in_ok-are_closed.are_closed kept takes) (head_on g.K.Knowledge.form (head_of c.args.self.now) c.args.self.now.replica c.close_all.new.replica takes.setting of))
+    (c.commit.ensures.leaves.left told entries (kept_mid entries c.args.self.now _ c.in_ok-are_closed.are_closed kept takes) (head_on g.K.Knowledge.form (head_of c.args.self.now) c.args.self.now.replica c.close_all.new.replica takes.setting of))
     (λ file here. same_notes g.K.Knowledge.form entries mid file (no_note_waits c.args.self.now c.requires.waits) here)

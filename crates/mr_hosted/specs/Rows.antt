@@ -4,8 +4,8 @@ use Rattle.std.specs.declared.alloc.Global.{Global}
 use Rattle.std.proofs.Common.{ap}
 use Rattle.std.proofs.lemmas.Bool.{false≢true}
 use Rattle.mr_journal.specs.Device.{overwritten}
-use Rattle.mr_outbox.specs.Acts.{AreSyncs, IsWrite, MayLeave, all_done}
-use Rattle.mr_outbox.specs.declared.act.Act.TheVariants as act
+use Rattle.mr_hosted.specs.Acts.{AreSyncs, IsWrite, MayLeave, all_done}
+use Rattle.mr_hosted.specs.declared.act.Act.TheVariants as act
 
 -- a write goes over what is there, and past the end
 pub write_past_the_end : (bytes : Vec ℕ Global) → bytes.items ≡ 8 ∷ 9 ∷ [] → all_done (1 ∷ 2 ∷ []) (act.Write 1 bytes ∷ []) ≡ 1 ∷ 8 ∷ 9 ∷ []

@@ -1,8 +1,8 @@
 //! A device that notes what a host has to do.
 ghost use Rattle.std.specs.Prelude.{◌≡◌, ◌≤◌, ◌+◌, ◌++◌, ◌∷◌, [], IsTrue, true, false, length, take, drop, IfOk, IsOk, OnOk, OnErr};
 ghost use Rattle.mr_journal.specs.Device.{Cut, Follows, HasCause, IsUntouched, Only, Passes, Rests, Torn, overwritten};
-ghost use Rattle.mr_outbox.specs.Acts.{AreSyncs, IsWrite, LeftSince, MayLeave, all_done, now_counts, only_now};
-ghost use Rattle.mr_outbox.specs.declared.act.Act.TheVariants as act;
+ghost use Rattle.mr_hosted.specs.Acts.{AreSyncs, IsWrite, LeftSince, MayLeave, all_done, now_counts, only_now};
+ghost use Rattle.mr_hosted.specs.declared.act.Act.TheVariants as act;
 
 use crate::act::Act;
 use mr_journal::{Device, DeviceFailed};
@@ -29,7 +29,7 @@ pub struct Outbox {
 }
 
 impl Outbox {
-    ghost use Rattle.mr_outbox.specs.Outbox.{acts_of, file_of, may_leave, outbox_failed};
+    ghost use Rattle.mr_hosted.specs.Outbox.{acts_of, file_of, may_leave, outbox_failed};
 
     /// The outbox of a file that has these bytes, and that was synced before they were read. Nothing is to be done yet.
     pub fn new(alloc: Global, read: Vec<u8>) -> Outbox
@@ -71,7 +71,7 @@ fn noted(acts: &mut Vec<Act>, act: Act, failed: &mut bool) -> Result<(), DeviceF
 }
 
 impl Device for Outbox {
-    ghost use Rattle.mr_outbox.specs.Outbox.{Notes, acts_of, begun, file_of, left_since, may_leave, outbox_failed};
+    ghost use Rattle.mr_hosted.specs.Outbox.{Notes, acts_of, begun, file_of, left_since, may_leave, outbox_failed};
 
     ghost is_told = { true };
 

@@ -1,6 +1,6 @@
 use Rattle.std.proofs.Common.{ap, length, sym, ◌∙◌}
-use Rattle.mr_outbox.proofs.ActLemmas.{adds_none, before_sync, durable, no_fewer, same_file, since_sync, syncs_before}
-use Rattle.mr_outbox.proofs.outbox.OutboxDevice.sync.Goals as goal
+use Rattle.mr_hosted.proofs.ActLemmas.{adds_none, before_sync, durable, no_fewer, same_file, since_sync, syncs_before}
+use Rattle.mr_hosted.proofs.outbox.OutboxDevice.sync.Goals as goal
 
 pub invariant_of-self : goal.invariant_of-self
 invariant_of-self c =

@@ -4,8 +4,8 @@ use Rattle.std.specs.List.{list_all}
 use Rattle.std.proofs.Common.{sym, subst, arith}
 use Rattle.std.proofs.lemmas.List.{take_all}
 use Rattle.mr_journal.specs.Device.{Cut, Torn, overwritten}
-use Rattle.mr_outbox.specs.declared.act.Act.{Act}
-use Rattle.mr_outbox.specs.declared.act.Act.TheVariants as act
+use Rattle.mr_hosted.specs.declared.act.Act.{Act}
+use Rattle.mr_hosted.specs.declared.act.Act.TheVariants as act
 
 -- the file once an act is done
 abbrev pub done : List ℕ → Act → List ℕ

@@ -6,9 +6,9 @@ use Rattle.std.proofs.lemmas.List.Folds.{list_all-append}
 use Rattle.std.specs.List.{list_all}
 use Rattle.std.specs.Prelude.{min, Result, Ok, Err, OnOk, OnErr}
 use Rattle.mr_journal.specs.Device.{Cut, IsOldOrWritten, Only, Passes, Torn, overwritten}
-use Rattle.mr_outbox.specs.Acts.{AreSyncs, LeftBy, LeftByAll, LeftSince, MayLeave, all_done, done, is_sync, only_now}
-use Rattle.mr_outbox.specs.declared.act.Act.{Act}
-use Rattle.mr_outbox.specs.declared.act.Act.TheVariants as act
+use Rattle.mr_hosted.specs.Acts.{AreSyncs, LeftBy, LeftByAll, LeftSince, MayLeave, all_done, done, is_sync, only_now}
+use Rattle.mr_hosted.specs.declared.act.Act.{Act}
+use Rattle.mr_hosted.specs.declared.act.Act.TheVariants as act
 
 -- the file once one more act is done
 pub all_done-append : (file : List ℕ) (acts : List Act) (a : Act) → all_done file (acts ++ a ∷ []) ≡ done (all_done file acts) a

@@ -1,10 +1,10 @@
 use Rattle.std.proofs.Common.{◌≡◌, arith, ap, length, subst, rules, List, ℕ, ◌∙◌}
 use Rattle.std.proofs.lemmas.Bool.{false≢true}
 use Rattle.mr_journal.specs.Device.{Torn, overwritten}
-use Rattle.mr_outbox.specs.Acts.{MayLeave, all_done}
-use Rattle.mr_outbox.specs.declared.act.Act.TheVariants as act
-use Rattle.mr_outbox.proofs.ActLemmas.{after, all_syncs, left_behind, length_written, passes}
-use Rattle.mr_outbox.proofs.outbox.OutboxDevice.write_at.Goals as goal
+use Rattle.mr_hosted.specs.Acts.{MayLeave, all_done}
+use Rattle.mr_hosted.specs.declared.act.Act.TheVariants as act
+use Rattle.mr_hosted.proofs.ActLemmas.{after, all_syncs, left_behind, length_written, passes}
+use Rattle.mr_hosted.proofs.outbox.OutboxDevice.write_at.Goals as goal
 
 pub invariant_of-self-2 : goal.invariant_of-self-2
 invariant_of-self-2 c =

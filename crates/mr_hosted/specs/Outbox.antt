@@ -1,8 +1,9 @@
 -- what an outbox shows
-use Rattle.std.specs.Prelude.{◌≡◌, ◌++◌, ◌∷◌, [], ℕ, Bool, List, Result, Ok, Err, length}
-use Rattle.mr_outbox.specs.Acts.{LeftSince, MayLeave, all_done}
-use Rattle.mr_outbox.specs.declared.act.Act.{Act}
-use Rattle.mr_outbox.specs.declared.outbox.Outbox.{Outbox}
+use Rattle.std.specs.Prelude.{◌≡◌, ◌++◌, ◌∷◌, [], ℕ, Bool, true, List, Result, Ok, Err, length}
+use Rattle.mr_journal.specs.declared.device.Device.{Ghosts as DeviceOf}
+use Rattle.mr_hosted.specs.Acts.{LeftSince, MayLeave, all_done}
+use Rattle.mr_hosted.specs.declared.act.Act.{Act}
+use Rattle.mr_hosted.specs.declared.outbox.Outbox.{Outbox}
 
 -- what the host has to do
 abbrev pub acts_of : Outbox → List Act
@@ -21,13 +22,18 @@ file_of outbox = all_done outbox.read.items outbox.acts.items
 abbrev pub outbox_failed : Outbox → Bool
 outbox_failed outbox = outbox.failed
 
--- What the host's file may be after a crash now, how many acts were begun by now, and what it may be after a crash since t of them were. For an
--- outbox over a host that does as it is told these are `Device`'s own words.
+-- what the host's file may be after a crash now
 abbrev pub may_leave : Outbox → List ℕ → Type 0
 may_leave outbox c = MayLeave outbox.read.items outbox.acts.items c
 
+-- how many acts were begun by now
 abbrev pub begun : Outbox → ℕ
 begun outbox = length outbox.acts.items
 
+-- what the host's file may be after a crash since so many of them were
 abbrev pub left_since : Outbox → ℕ → List ℕ → Type 0
 left_since outbox t c = LeftSince outbox.read.items outbox.acts.items t c
+
+-- as a device, over a host that does as it is told
+abbrev pub outbox_device : DeviceOf Outbox
+outbox_device = record { is_told = true; seen = file_of; may_leave = may_leave; moment = begun; left_since = left_since; has_failed = outbox_failed }

@@ -1,9 +1,9 @@
 use Rattle.std.proofs.Common.{arith, ap, length, length-take}
 use Rattle.std.proofs.lemmas.Bool.{false≢true}
-use Rattle.mr_outbox.specs.Acts.{all_done}
-use Rattle.mr_outbox.specs.declared.act.Act.TheVariants as act
-use Rattle.mr_outbox.proofs.ActLemmas.{after, all_syncs, left_behind, passes}
-use Rattle.mr_outbox.proofs.outbox.OutboxDevice.cut.Goals as goal
+use Rattle.mr_hosted.specs.Acts.{all_done}
+use Rattle.mr_hosted.specs.declared.act.Act.TheVariants as act
+use Rattle.mr_hosted.proofs.ActLemmas.{after, all_syncs, left_behind, passes}
+use Rattle.mr_hosted.proofs.outbox.OutboxDevice.cut.Goals as goal
 
 pub invariant_of-self-2 : goal.invariant_of-self-2
 invariant_of-self-2 c =
