@@ -19,7 +19,7 @@ use Rattle.mr_joins.specs.declared.element.Element.{Element}
 use Rattle.mr_joins.specs.declared.element.Element.TheVariants as element
 use Rattle.mr_joins.specs.declared.mark.Mark.{Mark}
 use Rattle.mr_maildir.proofs.Names.{Bor, IsSplitOnceResult, MatchOption, and_from, and_parts, codes, cut_at, decimal, eq-eqb, eqb-true, false≢true, flat_map, leb-true, list_all, nat_le, split_parts, text_eq, ◌==◌}
-use Rattle.mr_maildir.proofs.ViewLemmas.{same_text}
+use Rattle.mr_joins.proofs.LabelLemmas.{same_text}
 use Rattle.std.specs.Prelude.{nat_lt}
 use Rattle.std.specs.Result.{result_ok}
 use Rattle.std.proofs.lemmas.Bool.{ltb-true}

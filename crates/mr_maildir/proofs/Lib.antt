@@ -12,6 +12,7 @@ pub mod ReferenceLemmas
 pub mod CountsLemmas
 pub mod LinesLemmas
 pub mod MailTextLemmas
+pub mod TellingLemmas
 pub mod PlanLemmas
 pub mod MomentLemmas
 pub mod LayoutLemmas

@@ -48,15 +48,15 @@ says_part keep [] key = elim (keep key.0) as (λ t. never ≡ cond t never never
 says_part keep (m ∷ marks) key =
     elim (keep m.item) as (λ t. keep m.item ≡ t → says (cond t (m ∷ filter (λ (m : Mark). keep m.item) marks) (filter (λ (m : Mark). keep m.item) marks)) key ≡ cond (keep key.0) (cond (is_of m key) m.count (says marks key)) never) [
       | true ↦ λ kept. elim (is_of m key) as (λ t. is_of m key ≡ t → cond t m.count (says (filter (λ (m : Mark). keep m.item) marks) key) ≡ cond (keep key.0) (cond t m.count (says marks key)) never) [
-          | true ↦ λ here. sym (ap (λ t. cond t m.count never) (ap (λ (k : Key). keep k.0) (key_is m key here) ∙ kept))
-          | false ↦ λ _. says_part keep marks key
-        ] refl
+        | true ↦ λ here. sym (ap (λ t. cond t m.count never) (ap (λ (k : Key). keep k.0) (key_is m key here) ∙ kept))
+        | false ↦ λ _. says_part keep marks key
+      ] refl
       | false ↦ λ left. elim (is_of m key) as (λ t. is_of m key ≡ t → says (filter (λ (m : Mark). keep m.item) marks) key ≡ cond (keep key.0) (cond t m.count (says marks key)) never) [
-          | true ↦ λ here.
-              let out : keep key.0 ≡ false = ap (λ (k : Key). keep k.0) (key_is m key here) ∙ left in
-              says_part keep marks key ∙ (ap (λ t. cond t (says marks key) never) out ∙ sym (ap (λ t. cond t m.count never) out))
-          | false ↦ λ _. says_part keep marks key
-        ] refl
+        | true ↦ λ here.
+            let out : keep key.0 ≡ false = ap (λ (k : Key). keep k.0) (key_is m key here) ∙ left in
+            says_part keep marks key ∙ (ap (λ t. cond t (says marks key) never) out ∙ sym (ap (λ t. cond t m.count never) out))
+        | false ↦ λ _. says_part keep marks key
+      ] refl
     ] refl
 
 join-append : (a b c : List Mark) → join a (b ++ c) ≡ join (join a b) c
@@ -79,13 +79,13 @@ own_first own value is =
     let first_rise = rising-join [] mine tt in
     join-append [] mine others
     ∙ same_marks (join (join [] mine) others) value (rising-join (join [] mine) others first_rise) is.rising
-      (marks-join (join [] mine) others (marks-join [] mine tt (each_part IsMark (λ (m : Mark). name_eq own m.item) value marks)) (each_part IsMark (λ (m : Mark). not (name_eq own m.item)) value marks)) marks
-      (λ key.
-          says-join (join [] mine) others key first_rise others_rise
-          ∙ (ap (λ c. larger c (says others key)) (says-join [] mine key tt mine_rise)
-          ∙ (ap (λ c. larger (larger never c) (says others key)) (says_part (name_eq own) value key)
-          ∙ (ap (λ c. larger (larger never (cond (name_eq own key.0) (says value key) never)) c) (says_part (λ item. not (name_eq own item)) value key)
-          ∙ two_sides (name_eq own key.0) (says value key)))))
+    (marks-join (join [] mine) others (marks-join [] mine tt (each_part IsMark (λ (m : Mark). name_eq own m.item) value marks)) (each_part IsMark (λ (m : Mark). not (name_eq own m.item)) value marks)) marks
+    (λ key.
+    says-join (join [] mine) others key first_rise others_rise
+    ∙ (ap (λ c. larger c (says others key)) (says-join [] mine key tt mine_rise)
+    ∙ (ap (λ c. larger (larger never c) (says others key)) (says_part (name_eq own) value key)
+    ∙ (ap (λ c. larger (larger never (cond (name_eq own key.0) (says value key) never)) c) (says_part (λ item. not (name_eq own item)) value key)
+    ∙ two_sides (name_eq own key.0) (says value key)))))
 
 -- where neither has one there is none
 pub no_marks : (own : Name) (value : List Mark) → own_marks own value ++ other_marks own value ≡ [] → value ≡ []
@@ -133,16 +133,6 @@ pub marks_self : (a : List Mark) → marks_eq a a ≡ true
 marks_self [] = refl
 marks_self (x ∷ a) = and_from (mark_eq x x) (marks_eq a a) (mark_self x) (marks_self a)
 
-pub marks_apart : (a b : List Mark) → length a ≢ length b → marks_eq a b ≡ false
-marks_apart [] [] apart = absurd (apart refl)
-marks_apart [] (y ∷ b) apart = refl
-marks_apart (x ∷ a) [] apart = refl
-marks_apart (x ∷ a) (y ∷ b) apart =
-    elim (mark_eq x y) as (λ t. (t && marks_eq a b) ≡ false) [
-      | true ↦ marks_apart a b (λ same. apart (ap (λ n. n + 1) same))
-      | false ↦ refl
-    ]
-
 -- ---- the value that is read is the one that was told
 
 shown_nothing : (own : Name) (labels : List (List ℕ)) (flags : ℕ) → is_shown_by [] labels flags ≡ true → uncounted own labels flags ≡ []
@@ -164,13 +154,3 @@ read_is own value marks read labels flags is shown told none some =
         let P : List Mark → Type 0 = λ v. is_shown_by v labels flags ≡ true in
         none refl ∙ (shown_nothing own labels flags (subst P nothing shown) ∙ sym nothing)
     by (m ∷ marks) here none some = some (λ empty. cc) ∙ (ap (join []) (sym here) ∙ own_first own value is)
-
--- ---- marks at their places
-
-pub mark_at : (marks : List Mark) (i : ℕ) (m : Mark) → i < length marks → m ≡ get_or marks i m → list_all is_mark marks ≡ true → is_mark m ≡ true
-mark_at [] i m below is all = absurd (omega arith)
-mark_at (x ∷ marks) zero m below is all = ap is_mark is ∙ (and_parts (is_mark x) (list_all is_mark marks) all).0
-mark_at (x ∷ marks) (suc i) m below is all = mark_at marks i m (omega arith) is (and_parts (is_mark x) (list_all is_mark marks) all).1
-
-pub mark_is : (m : Mark) → is_mark m ≡ true → IsMark m
-mark_is m is = let count = count_in m.count (mark_parts m is).2 in (omega arith, count.within)

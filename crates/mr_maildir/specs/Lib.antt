@@ -7,6 +7,7 @@ pub mod Reference
 pub mod Counts
 pub mod Lines
 pub mod MailText
+pub mod Telling
 pub mod View
 pub mod File
 pub mod FileActs
@@ -19,4 +20,5 @@ pub mod Policy
 pub mod Rows
 pub mod FileRows
 pub mod MailTextRows
+pub mod TellingRows
 pub mod inner

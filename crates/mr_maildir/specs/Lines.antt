@@ -3,7 +3,7 @@ use Rattle.std.specs.Prelude.{◌≡◌, ℕ, Bool, true, false, not, ◌&&◌, 
 use Rattle.std.specs.List.{list_all, starts_with}
 use Rattle.std.specs.Ordering.{is_lt}
 use Rattle.mr_version.specs.Name.{Name}
-use Rattle.mr_mail.specs.Label.{is_label, text_cmp}
+use Rattle.mr_mail.specs.Label.{is_label, text_cmp, text_eq}
 use Rattle.mr_joins.specs.declared.mark.Mark.{Mark}
 use Rattle.mr_maildir.specs.Counts.{counts_lines, is_mark}
 use Rattle.mr_maildir.specs.Folder.{is_name_for, is_plain}
@@ -30,6 +30,11 @@ pub record LinesParts : Type 0 where
 
 abbrev pub lines_of : MailLines → LinesParts
 lines_of l = record { name = option_map string_bytes l.name; folders = map folder_of l.folders.items; marks = l.marks.items; others = map string_bytes l.others.items }
+
+-- the name that is told of a label's folder
+abbrev pub name_of : List ℕ → List FolderParts → Option (List ℕ)
+name_of label [] = None
+name_of label (f ∷ folders) = if text_eq f.label label then Some f.name else name_of label folders
 
 -- ---- each kind of line
 

@@ -43,6 +43,27 @@ pub struct MailLines {
     pub others: Vec<String>,
 }
 
+impl MailLines {
+    /// The name of the label's folder, if it is told.
+    pub fn folder_name(&self, label: &Label) -> Option<&str>
+        ensures { option_copied result ≡ specs.name_of label.now (map folder_of self.now.folders.items) }
+    {
+        name_of(&self.folders, label)
+    }
+}
+
+/// The name that the first of these folders with this label has.
+fn name_of<'a>(folders: &'a [FolderName], label: &Label) -> Option<&'a str>
+    ensures { option_copied result ≡ specs.name_of label.now (map folder_of folders.now) }
+{
+    for folder in folders {
+        if folder.label == *label {
+            return Some(folder.name.as_str());
+        }
+    }
+    None
+}
+
 /// What the line of a file's name begins with, one of a folder's name, and one of counts.
 const NAME_KEY: &str = "name ";
 

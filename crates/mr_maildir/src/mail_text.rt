@@ -1,5 +1,5 @@
 //! The body of a message that stands for a mail: `mail 2`.
-ghost use Rattle.std.specs.Prelude.{◌≡◌, ◌<◌, ◌^◌, ◌∷◌, ◌++◌, ℕ, List, IfOk, IfSome, IsTrue, MatchOption, OnOk, [], codes, map, string_bytes};
+ghost use Rattle.std.specs.Prelude.{◌≡◌, ◌<◌, ◌^◌, ◌∷◌, ◌++◌, ℕ, List, IfOk, IfSome, IsTrue, MatchOption, OnOk, [], codes, length, string_bytes};
 ghost use Rattle.std.specs.Str.{IsUtf8};
 ghost use Rattle.std.specs.List.{flat_map};
 ghost use Rattle.mr_mail.specs.Label.{text_eq};
@@ -13,6 +13,7 @@ use crate::reference::{
     DIGEST_KEY, MailReference, SIZE_KEY, push_line, read_digest_line, read_size_line,
 };
 use crate::told::behind;
+use mr_mail::MAX_BODY_BYTES;
 use mr_version::ItemId;
 use std::alloc::{AllocError, Global};
 
@@ -33,6 +34,12 @@ pub struct MailText {
     pub told: MailLines,
 }
 
+/// The most bytes of a body that an edit of a user may have: 16 KiB. So joins of edits have room below what a message can have.
+pub const MAX_EDITED_BYTES: usize = 16_384;
+
+/// The most bytes of a body that a join may have: those that a message can have.
+pub const MAX_JOINED_BYTES: usize = MAX_BODY_BYTES;
+
 /// The line that each such body begins with.
 const OPENING: &str = "mail 2\n";
 
@@ -48,6 +55,14 @@ impl MailText {
         push_line(&mut text, SIZE_KEY, size.as_str())?;
         push_lines(alloc, &mut text, own, &self.told)?;
         Ok(text)
+    }
+
+    /// How many bytes the body has, in a record of this item. It is written to count them.
+    pub fn written_bytes(&self, alloc: Global, own: ItemId) -> Result<usize, AllocError>
+        ensures { IfOk result (λ bytes. bytes ≡ length (mail_text own (text_of self.now))) }
+    {
+        let text = self.write(alloc, own)?;
+        Ok(text.len())
     }
 
     /// What a body tells, in a record of this item. `None` for any other bytes, and where it isn't written as `write` writes

@@ -60,7 +60,7 @@ pub fn told_value(
     flags: Flags,
 ) -> Result<Option<Value>, AllocError>
     requires { list_all is_mark marks.now ≡ true }
-    ensures told { IfOk result (λ found. IfSome found (λ value. marks_eq (specs.told_marks own value labels.now flags) marks.now ≡ true)) }
+    ensures told { IfOk result (λ found. IfSome found (λ value. specs.told_marks own value labels.now flags ≡ marks.now)) }
     ensures shown { IfOk result (λ found. IfSome found (λ value. specs.is_shown_by value labels.now flags ≡ true)) }
     ensures whole { (value : List Mark) → IsValue value → specs.is_shown_by value labels.now flags ≡ true → specs.told_marks own value labels.now flags ≡ marks.now
         → IfOk result (λ found. MatchOption found ⊥ (λ read. read ≡ value)) }
