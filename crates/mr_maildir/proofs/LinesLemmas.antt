@@ -14,9 +14,9 @@ use Rattle.mr_maildir.proofs.ByteLemmas.{lacks, lacks-from}
 use Rattle.mr_maildir.proofs.CountsLemmas.{label_bytes, lacks_by, mark_parts, no_word, same_self}
 use Rattle.mr_maildir.proofs.ToldLemmas.{behind-key}
 use Rattle.mr_maildir.specs.Counts.{counts_lines, is_item, is_mark, item_key, lines_from, mark_text}
-use Rattle.mr_maildir.specs.Lines.{AreLines, FolderParts, LinesParts, are_rising, before_byte, behind_byte, folder_in, folder_in_line, first_name, folder_line, folder_of, folder_told, is_counts_line, is_folder, is_other_line, is_some_name, name_in, name_in_line, name_line, name_lines, told_lines}
+use Rattle.mr_maildir.specs.Lines.{AreLines, FolderParts, LinesParts, are_rising, before_byte, behind_byte, folder_in, folder_in_line, folder_line, folder_of, folder_told, is_counts_line, is_folder, is_other_line, is_some_name, name_in, name_in_line, name_line, name_lines, told_lines}
 use Rattle.mr_maildir.specs.inner.Counts.{is_run, line_of}
-use Rattle.mr_maildir.specs.inner.Lines.{begins_counts, begins_folder}
+use Rattle.mr_maildir.specs.inner.Lines.{begins_counts, begins_folder, first_name}
 
 append_nothing : {X : Type 0} (xs : List X) → xs ++ [] ≡ xs
 append_nothing [] = refl

@@ -9,7 +9,6 @@ use Rattle.mr_maildir.specs.Counts.{counts_lines, is_mark}
 use Rattle.mr_maildir.specs.Folder.{is_name_for, is_plain}
 use Rattle.mr_maildir.specs.Name.{is_safe_name}
 use Rattle.mr_maildir.specs.Told.{behind_key, folder_key, name_key}
-use Rattle.mr_maildir.specs.inner.Told.{is_one_line}
 use Rattle.mr_maildir.specs.declared.lines.FolderName.{FolderName}
 use Rattle.mr_maildir.specs.declared.lines.MailLines.{MailLines}
 
@@ -75,18 +74,13 @@ folder_in_line (Some text) = if is_folder (folder_told text) then Some (folder_t
 abbrev pub folder_in : List ℕ → Option FolderParts
 folder_in line = folder_in_line (behind_key (codes "folder ") line)
 
--- the name that the first of some lines tells
-abbrev pub first_name : List (List ℕ) → Option (List ℕ)
-first_name [] = None
-first_name (line ∷ lines) = name_in line
-
 -- a line of counts, whatever it tells
 abbrev pub is_counts_line : List ℕ → Bool
 is_counts_line line = starts_with nat_eq line (codes "counts ")
 
--- a line that this program doesn't know
+-- a line that this program doesn't know: it has no newline
 abbrev pub is_other_line : List ℕ → Bool
-is_other_line line = not (is_some (name_in line)) && not (is_some (folder_in line)) && not (is_counts_line line) && is_one_line line
+is_other_line line = not (is_some (name_in line)) && not (is_some (folder_in line)) && not (is_counts_line line) && list_all (λ b. not (b == 10)) line
 
 -- ---- all of them
 

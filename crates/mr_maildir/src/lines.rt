@@ -7,9 +7,9 @@ ghost use Rattle.mr_mail.specs.Label.{text_cmp};
 ghost use Rattle.mr_joins.specs.declared.mark.Mark.{Mark};
 ghost use Rattle.mr_maildir.specs.Layout.{cut_at};
 ghost use Rattle.mr_maildir.specs.Counts.{is_item, is_mark, counts_lines, ended};
-ghost use Rattle.mr_maildir.specs.Lines.{FolderParts, LinesParts, AreLines, folder_of, lines_of, is_folder, name_in, folder_in, folder_line, name_lines, before_byte, behind_byte, told_lines, first_name, is_some_name};
+ghost use Rattle.mr_maildir.specs.Lines.{FolderParts, LinesParts, AreLines, folder_of, lines_of, is_folder, name_in, folder_in, folder_line, name_lines, before_byte, behind_byte, told_lines, is_some_name};
 ghost use Rattle.mr_maildir.specs.Lines as specs;
-ghost use Rattle.mr_maildir.specs.inner.Lines.{begins_folder, begins_counts};
+ghost use Rattle.mr_maildir.specs.inner.Lines.{begins_folder, begins_counts, first_name};
 
 use crate::counts::{push_counts, read_counts_line};
 use crate::folder::{folder_label, is_plain, is_safe_folder};
