@@ -1,6 +1,6 @@
 //! A folder that talks while somebody watches how far it is.
 ghost use Rattle.std.specs.Prelude.{◌≡◌, false, option_map, unwrap_or};
-ghost use Rattle.mailfold.specs.Late.{TalksAsWithin};
+ghost use Rattle.mailfold.specs.Late.{KeepsWithin, TalksAsWithin, within_on, within_step, within_still};
 
 use crate::late::{Late, Opens};
 use crate::progress::Ticker;
@@ -47,6 +47,14 @@ impl<R: Eprint + Clock, H: Host + Counts + Drop, O: Opens<H> + Drop> Host for Wa
     ghost waits = { λ w. unwrap_or (option_map (λ h. H.waits h) w.late.host) false };
 
     ghost files_wait = { λ w. unwrap_or (option_map (λ h. H.files_wait h) w.late.host) false };
+
+    ghost keeps = { λ w v. KeepsWithin H.keeps w.late.host v.late.host };
+
+    ghost keeps_still = { λ w. within_still H.keeps H.keeps_still w.late.host };
+
+    ghost keeps_on = { λ a b c first second. within_on H.keeps H.keeps_on a.late.host b.late.host c.late.host first second };
+
+    ghost keeps_step = { λ old act new step. within_step H.steps H.keeps H.keeps_step old.late.host act new.late.host step };
 
     fn keep(&mut self) -> Result<(), HostFault> {
         match &mut self.late.host {

@@ -7,6 +7,7 @@ pub mod QuietLemmas
 pub mod PartLemmas
 pub mod HeldLemmas
 pub mod SweepLemmas
+pub mod KeepLemmas
 pub mod ShowLemmas
 pub mod MemoryLemmas
 pub mod MemoryNames

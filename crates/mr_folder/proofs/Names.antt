@@ -6,9 +6,9 @@ pub use Rattle.mr_folder.specs.Memory.{Goes, Left, LeftSince, Links, MayLeave, M
 pub use Rattle.mr_folder.specs.Names.{IsDigest, TellsDigests}
 pub use Rattle.mr_folder.specs.Quiet.{Between, IsSnapshot, IsStill, KeepTimes, Past, TellsChanges, texts}
 pub use Rattle.mr_folder.specs.Show.{HasRoom}
-pub use Rattle.mr_folder.specs.Store.{HasMail, IsSound, IsStore, OnlyStored, SameOr, StaysSound}
+pub use Rattle.mr_folder.specs.Store.{GetsMail, HasMail, IsKept, IsSound, IsStore, KeepsMail, KeepsMails, OnlyStored, SameOr, StaysSound}
 pub use Rattle.mr_folder.specs.Sweep.{IsUnheld, MaySweep, SweepsOnly, SweptFrom}
-pub use Rattle.mr_folder.specs.Tree.{Follows, HasSame, IsUntouched, LeavesAfter, LeavesOnly, MayGo, MayLink, MayMove, NoneOr, OnlyAt, Passes, Stepped, Tree}
+pub use Rattle.mr_folder.specs.Tree.{Follows, HasSame, IsUntouched, KeepsAt, LeavesAfter, LeavesOnly, MayGo, MayLink, MayMove, NoneOr, OnlyAt, Passes, Stepped, Tree}
 pub use Rattle.mr_folder.specs.inner.MemoryFound.{behind_store, found_in, stored_name, target}
 pub use Rattle.mr_folder.specs.inner.Names.{digest_of, if_lower}
 pub use Rattle.mr_folder.specs.inner.Parts.{is_folder_text, is_part_text, parts_of}

@@ -40,6 +40,20 @@ pub record IsKept {F : Type 0} (seen : F → Tree) (may_leave : F → Tree → T
   pub now : HasMail digest (seen files)
   pub crash : (c : Tree) → may_leave files c → HasMail digest c
 
+-- A mail that the store has stays there: in the same bytes, and where a crash would have left it, whatever one leaves now, or left at a moment between, has it.
+pub record KeepsMail {F : Type 0} (seen : F → Tree) (may_leave : F → Tree → Type 0) (moment : F → ℕ) (left_since : F → ℕ → Tree → Type 0) (digest : List ℕ) (old new : F) : Type 0 where
+  pub same : HasMail digest (seen old) → seen new (stored_path digest) ≡ seen old (stored_path digest)
+  pub kept : IsKept seen may_leave digest old → IsKept seen may_leave digest new
+  pub moments : IsKept seen may_leave digest old → LeavesOnly moment left_since old new (HasMail digest)
+
+-- so does each mail
+abbrev pub KeepsMails : {F : Type 0} → (F → Tree) → (F → Tree → Type 0) → (F → ℕ) → (F → ℕ → Tree → Type 0) → F → F → Type 0
+KeepsMails seen may_leave moment left_since old new = (digest : List ℕ) → KeepsMail seen may_leave moment left_since digest old new
+
+-- a mail of these bytes got to its place: it was there, and its file is as it was; or it wasn't, and its file has these bytes
+abbrev pub GetsMail : (digest bytes : List ℕ) → Tree → Tree → Type 0
+GetsMail digest bytes old new = (HasMail digest old × (new (stored_path digest) ≡ old (stored_path digest))) ⊎ ((HasMail digest old → ⊥) × (new (stored_path digest) ≡ Some bytes))
+
 -- of a mail that comes in these bytes have come: the draft has them, and its digest goes on from them
 pub record HasCome (bytes : List ℕ) (incoming : Incoming) (tree : Tree) : Type 0 where
   pub held : Holds256 incoming.hasher bytes

@@ -65,3 +65,8 @@ pub record IsUntouched {F : Type 0} (seen : F → Tree) (may_leave : F → Tree 
 pub record LeavesAfter {F : Type 0} (step : Tree → Tree → Type 0) (may_leave : F → Tree → Type 0) (moment : F → ℕ) (left_since : F → ℕ → Tree → Type 0) (old new : F) : Type 0 where
   pub crash : Follows step (may_leave old) (may_leave new)
   pub moments : LeavesOnly moment left_since old new (Stepped step (may_leave old))
+
+-- At this path there is what there was, and a crash leaves there, or left there at a moment between, what it might have left before.
+pub record KeepsAt {F : Type 0} (seen : F → Tree) (may_leave : F → Tree → Type 0) (moment : F → ℕ) (left_since : F → ℕ → Tree → Type 0) (path : List ℕ) (old new : F) : Type 0 where
+  pub same : seen new path ≡ seen old path
+  pub after : LeavesAfter (λ before now. now path ≡ before path) may_leave moment left_since old new

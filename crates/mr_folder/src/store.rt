@@ -7,11 +7,12 @@ ghost use Rattle.std.specs.Str.{bytes_eq};
 ghost use Rattle.mr_folder.specs.declared.store.StoreFault.TheVariants.{OutOfMemory, Failed};
 ghost use Rattle.mr_folder.specs.Fault.{store_fault_number};
 ghost use Rattle.mr_folder.specs.Inside.{draft_path, stored_path};
-ghost use Rattle.mr_folder.specs.Store.{IsSound, StaysSound, OnlyStored, SameOr, IsKept, HasCome};
+ghost use Rattle.mr_folder.specs.Store.{IsSound, StaysSound, OnlyStored, SameOr, IsKept, HasCome, HasMail, GetsMail, KeepsMails};
 ghost use Rattle.mr_folder.specs.Tree.{OnlyAt, MayMove, MayLink, HasSame, IsUntouched, LeavesAfter, NoneOr};
 
 use crate::files::{FileTree, FilesFailed};
 use crate::path::FilePath;
+use crate::reading::keep_mail;
 use sha2::{Digest, Sha256};
 use std::alloc::{AllocError, Global};
 use thiserror::Error;
@@ -99,8 +100,8 @@ pub fn append<F: FileTree>(
 /// Ends to take a mail in. It is in the store exactly where its bytes have this digest: true where they do. Else nothing
 /// changed.
 ///
-/// All but the draft and the mail's place is as it was, at each moment of the call and after a crash, also where it fails. Of a mail
-/// that the store had by this digest already that isn't said: a crash within the call may lose it, since the draft comes in its place.
+/// Where the store has the mail already, nothing is changed either: its file stays as it is. All but the draft and the mail's place is as
+/// it was, at each moment of the call and after a crash, also where it fails.
 pub fn end<F: FileTree>(
     alloc: Global,
     files: &mut F,
@@ -109,10 +110,12 @@ pub fn end<F: FileTree>(
 ) -> Result<bool, StoreFault>
     ensures taken { (come : List ℕ) → Holds256 incoming.hasher come → IfOk result (λ taken. IsTrue taken ↔ (sha256 come ≡ digest.now)) }
     ensures bytes { IsTrue F.is_told → (come : List ℕ) → HasCome come incoming (F.seen files.old)
-        → IfOk result (λ taken. IsTrue taken → F.seen files.new (stored_path digest.now) ≡ Some come) }
+        → IfOk result (λ taken. IsTrue taken → GetsMail digest.now come (F.seen files.old) (F.seen files.new)) }
     ensures kept { IsTrue F.is_told → (come : List ℕ) → HasCome come incoming (F.seen files.old) → IsSound F.seen F.may_leave files.old
         → IfOk result (λ taken. IsTrue taken → IsKept F.seen F.may_leave digest.now files.new) }
     ensures refused { IsTrue F.is_told → IfOk result (λ taken. taken ≡ false → IsUntouched F.seen F.may_leave F.moment F.left_since files.old files.new) }
+    ensures there { IsTrue F.is_told → HasMail digest.now (F.seen files.old) → IsUntouched F.seen F.may_leave F.moment F.left_since files.old files.new }
+    ensures keeps { IsTrue F.is_told → KeepsMails F.seen F.may_leave F.moment F.left_since files.old files.new }
     ensures place { IsTrue F.is_told → (come : List ℕ) → HasCome come incoming (F.seen files.old)
         → SameOr (stored_path digest.now) come (F.seen files.old) (F.seen files.new) }
     ensures only { IsTrue F.is_told → OnlyStored digest.now (F.seen files.old) (F.seen files.new) }
@@ -120,35 +123,62 @@ pub fn end<F: FileTree>(
     ensures sound { IsTrue F.is_told → (come : List ℕ) → HasCome come incoming (F.seen files.old) → IsSound F.seen F.may_leave files.old
         → StaysSound F.seen F.may_leave F.moment F.left_since files.old files.new }
 {
-    if has_digest(incoming.hasher, digest) {
-        place(alloc, files, digest)?;
-        Ok(true)
-    } else {
-        Ok(false)
+    if !has_digest(incoming.hasher, digest) {
+        return Ok(false);
     }
+    let is_there = keep_mail(alloc, files, digest)?;
+    if is_there {
+        return Ok(true);
+    }
+    place(alloc, files, digest)?;
+    Ok(true)
 }
 
 /// Takes a mail in that is here as a whole, in place of one that was begun and not ended. Its digest, by which it is in the store then.
 ///
-/// All but the draft and the mail's place is as it was, at each moment of the call and after a crash, also where it fails. Of a mail
-/// that the store had by this digest already that isn't said: a crash within the call may lose it, since the draft comes in its place.
+/// Where the store has the mail already, nothing is changed: its file stays as it is. All but the draft and the mail's place is as it was,
+/// at each moment of the call and after a crash, also where it fails.
 pub fn take_in<F: FileTree>(
     alloc: Global,
     files: &mut F,
     bytes: &[u8],
 ) -> Result<[u8; 32], StoreFault>
     ensures digest { IfOk result (λ digest. digest ≡ sha256 bytes.now) }
-    ensures stored { IsTrue F.is_told → IfOk result (λ digest. F.seen files.new (stored_path digest) ≡ Some bytes.now) }
+    ensures stored { IsTrue F.is_told → IfOk result (λ digest. GetsMail digest bytes.now (F.seen files.old) (F.seen files.new)) }
     ensures kept { IsTrue F.is_told → IsSound F.seen F.may_leave files.old → IfOk result (λ digest. IsKept F.seen F.may_leave digest files.new) }
+    ensures there { IsTrue F.is_told → HasMail (sha256 bytes.now) (F.seen files.old) → IsUntouched F.seen F.may_leave F.moment F.left_since files.old files.new }
+    ensures keeps { IsTrue F.is_told → KeepsMails F.seen F.may_leave F.moment F.left_since files.old files.new }
     ensures place { IsTrue F.is_told → SameOr (stored_path (sha256 bytes.now)) bytes.now (F.seen files.old) (F.seen files.new) }
     ensures only { IsTrue F.is_told → OnlyStored (sha256 bytes.now) (F.seen files.old) (F.seen files.new) }
     ensures crash { IsTrue F.is_told → LeavesAfter (OnlyStored (sha256 bytes.now)) F.may_leave F.moment F.left_since files.old files.new }
     ensures sound { IsTrue F.is_told → IsSound F.seen F.may_leave files.old → StaysSound F.seen F.may_leave F.moment F.left_since files.old files.new }
 {
     let digest = Sha256::digest(bytes);
-    write_draft(alloc, files, bytes)?;
-    place(alloc, files, &digest)?;
+    let is_there = keep_mail(alloc, files, &digest)?;
+    if is_there {
+        return Ok(digest);
+    }
+    write_in(alloc, files, bytes, &digest)?;
     Ok(digest)
+}
+
+/// Writes a mail into the store, in place of what stands there.
+fn write_in<F: FileTree>(
+    alloc: Global,
+    files: &mut F,
+    bytes: &[u8],
+    digest: &[u8; 32],
+) -> Result<(), StoreFault>
+    requires { sha256 bytes.now ≡ digest.now }
+    ensures stored { IsTrue F.is_told → OnOk result (F.seen files.new (stored_path digest.now) ≡ Some bytes.now) }
+    ensures kept { IsTrue F.is_told → IsSound F.seen F.may_leave files.old → OnOk result (IsKept F.seen F.may_leave digest.now files.new) }
+    ensures place { IsTrue F.is_told → SameOr (stored_path digest.now) bytes.now (F.seen files.old) (F.seen files.new) }
+    ensures only { IsTrue F.is_told → OnlyStored digest.now (F.seen files.old) (F.seen files.new) }
+    ensures crash { IsTrue F.is_told → LeavesAfter (OnlyStored digest.now) F.may_leave F.moment F.left_since files.old files.new }
+    ensures sound { IsTrue F.is_told → IsSound F.seen F.may_leave files.old → StaysSound F.seen F.may_leave F.moment F.left_since files.old files.new }
+{
+    write_draft(alloc, files, bytes)?;
+    place(alloc, files, digest)
 }
 
 /// Writes a draft of these bytes.

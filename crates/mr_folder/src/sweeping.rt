@@ -12,7 +12,7 @@ ghost use Rattle.mr_folder.specs.Names.{IsDigest};
 ghost use Rattle.mr_folder.specs.inner.Names.{digest_of};
 ghost use Rattle.mr_folder.specs.Store.{IsSound, StaysSound};
 ghost use Rattle.mr_folder.specs.Sweep.{SweepsOnly};
-ghost use Rattle.mr_folder.specs.Tree.{IsUntouched};
+ghost use Rattle.mr_folder.specs.Tree.{IsUntouched, KeepsAt};
 
 use crate::files::FileTree;
 use crate::path::FilePath;
@@ -93,6 +93,8 @@ pub fn sweep<F: FileTree>(alloc: Global, files: &mut F, held: &[[u8; 32]]) -> Re
     ensures swept { IsTrue F.is_told → OnOk result ((digest : List ℕ) → IsDigest digest → ¬ (Contains held.now digest)
         → F.seen files.new (stored_path digest) ≡ None) }
     ensures only { IsTrue F.is_told → SweepsOnly F.seen F.may_leave F.moment F.left_since held.now files.old files.new }
+    ensures held { IsTrue F.is_told → (digest : List ℕ) → IsDigest digest → Contains held.now digest
+        → KeepsAt F.seen F.may_leave F.moment F.left_since (stored_path digest) files.old files.new }
     ensures sound { IsTrue F.is_told → IsSound F.seen F.may_leave files.old → StaysSound F.seen F.may_leave F.moment F.left_since files.old files.new }
 {
     let stored = stored(alloc, files)?;

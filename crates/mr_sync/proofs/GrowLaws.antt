@@ -1,8 +1,13 @@
 -- logs that grow by some events only
-use Rattle.std.proofs.Common.{◌≡◌, ◌+◌, ◌<◌, ℕ, List, [], ◌∷◌, ◌++◌, length, get_or, take, map, Option, Some, None, Result, Ok, Err, refl, sym, ap, subst, ◌∙◌, append_assoc, append-nil}
-use Rattle.mr_sync.proofs.Names.{AllByRecursion, Answered, AreFrames, Failed, Form, Frame, GrowsOnlyBy, GrowsOnlyByTheirs, Hello, IsRecordOf, Journal}
-use Rattle.mr_sync.proofs.Names.{KeptFault, Normal, Receive, Refused, Reply, State, TakesRecordOf, TakesRecords, TooLarge, Unpacks, Unsettled, append_cancel_left}
+use Rattle.std.proofs.Common.{Bool, IsTrue, ◌≡◌, ◌+◌, ◌<◌, ℕ, List, [], ◌∷◌, ◌++◌, length, get_or, take, map, Option, Some, None, Result, Ok, Err, refl, sym, ap, subst, ◌∙◌, append_assoc, append-nil}
+use Rattle.mr_sync.specs.Named.{HasOrListsOf}
+use Rattle.mr_sync.specs.Taken.{TakesNamed}
+use Rattle.mr_sync.proofs.Names.{All, AllByRecursion, Answered, AreFrames, Failed, Form, Frame, GrowsOnlyBy, GrowsOnlyByTheirs, Hello, IsRecordOf, Journal}
+use Rattle.mr_sync.proofs.Names.{KeptFault, Normal, Receive, Refused, Reply, State, TakesRecordOf, TakesRecords, TooLarge, Unpacks, Unsettled, append_cancel_left, journal_of, replica_of, sparing_form}
 use Rattle.mr_sync.proofs.Names.{map-append, option_map, some_is, step_refused, take_one}
+use Rattle.mr_folder.specs.Tree.{Tree}
+use Rattle.mr_kept.specs.Kept.{Later}
+use Rattle.mr_kept.specs.declared.journaled.Journaled.{Journaled}
 use Rattle.mr_replica.specs.declared.event.Event.{Event}
 use Rattle.mr_replica.proofs.Replaying.{step_log}
 use Rattle.mr_kept.specs.declared.fault.KeptFault.TheVariants.{OutOfMemory}
@@ -43,6 +48,11 @@ module _ {K : Type 0} (form : Form K) where
   pub answered_grows : {D : Type 0} (P : Event → Type 0) (journal : Journal D) (s : State K) (event : Event) (answer : Result Reply KeptFault) (new : State K) → Answered form journal s event answer new → P event → GrowsOnlyBy P s.log new.log
   answered_grows P journal s event (Ok reply) new h is = grows_one P s.log new.log event (answered_log journal s event reply new h) is
   answered_grows P journal s event (Err e) new h is = grows_not P s.log new.log (ap (λ (z : State K). z.log) (refused_stays journal s event e new h))
+
+-- by an event of which comes what is handed out later
+pub later_grows : {D V : Type 0} (P : Event → Type 0) (old new : Journaled Normal D V) (event : Event) (answer : Result (Unit {0}) KeptFault) → Later sparing_form old event answer new → P event → GrowsOnlyBy P (replica_of old).log (replica_of new).log
+later_grows P old new event (Ok done) h is = grows_one P (replica_of old).log (replica_of new).log event (answered_log sparing_form (journal_of old) (replica_of old) event h.0 (replica_of new) h.1) is
+later_grows P old new event (Err e) h is = grows_not P (replica_of old).log (replica_of new).log (ap (λ (z : State Normal). z.log) (refused_stays sparing_form (journal_of old) (replica_of old) event e (replica_of new) h.0))
 
 -- what is taken and what is left is all, one event more
 pub taken_more : (start mid new : List Event) (left rest : List Frame) (f : Frame) → mid ++ map Receive left ≡ start → left ≡ f ∷ rest → new ≡ mid ++ Receive f ∷ [] → new ++ map Receive rest ≡ start
@@ -101,4 +111,13 @@ takes_records theirs other last bytes text mid after frames old taken new met un
   spelled = spelled;
   given = records_given other frames old.log taken.log grows all;
   log = ap (λ (z : State Normal). z.log) same ∙ all;
+}
+
+-- with the files that they need
+pub takes_named : (is_told : Bool) (tree : Tree) (lacking : List (List ℕ)) (theirs : Option Hello) (other : ℕ) (last bytes text mid after : List ℕ) (frames : List Frame) (old taken new : State Normal) → option_map (λ h. h.id) theirs ≡ Some other → Unpacks last bytes text mid → AreFrames frames text →
+    GrowsOnlyBy (TakesRecordOf other) old.log taken.log → taken.log ≡ old.log ++ map Receive frames → after ≡ mid → new ≡ taken → (IsTrue is_told → All (HasOrListsOf tree lacking) frames) → TakesNamed is_told theirs last old bytes after new tree lacking
+unfolding takes_records
+takes_named is_told tree lacking theirs other last bytes text mid after frames old taken new met unpacked spelled grows all same_last same named = record {
+  taken = takes_records theirs other last bytes text mid after frames old taken new met unpacked spelled grows all same_last same;
+  named = named;
 }

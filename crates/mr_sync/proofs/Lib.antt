@@ -10,5 +10,7 @@ pub mod MarkLaws
 pub mod ReleaseLaws
 pub mod SayLaws
 pub mod TakeLaws
+pub mod VouchLaws
+pub mod ListedLaws
 pub mod TakenLists
 pub mod PackLaws

@@ -1,8 +1,11 @@
 -- files that come
 use Rattle.std.specs.Prelude.{◌≡◌, ◌+◌, ◌++◌, ℕ, false, List, [], length, is_some, Option, Some, None}
+use Rattle.std.specs.BTreeMap.{is_at}
+use Rattle.std.specs.Cmp.Lexicographic.{slice_cmp}
+use Rattle.std.specs.Ordering.{nat_cmp}
+use Rattle.std.specs.Set.{remove_key}
 use Rattle.sha2.specs.Sha256.{sha256}
-use Rattle.mr_folder.specs.Inside.{stored_path}
-use Rattle.mr_folder.specs.Store.{HasCome, IsKept}
+use Rattle.mr_folder.specs.Store.{GetsMail, HasCome, IsKept}
 use Rattle.mr_folder.specs.Tree.{Tree}
 use Rattle.mr_talk.specs.declared.kind.Kind.{Kind}
 use Rattle.mr_talk.specs.declared.kind.Kind.TheVariants as kind
@@ -38,18 +41,28 @@ abbrev pub HasPart : List ℕ → Option Coming → Tree → Type 0
 HasPart come None tree = ⊥
 HasPart come (Some file) tree = HasCome come file.incoming tree
 
--- the store has these bytes as the file that came, and they have the digest that was told of it
-abbrev pub IsStored : List ℕ → Option Coming → Tree → Type 0
-IsStored come None tree = ⊥
-IsStored come (Some file) tree = (sha256 come ≡ file.digest) × (tree (stored_path file.digest) ≡ Some come)
+-- the bytes that came have the digest that was told of the file, and the store has it: a file that was there is as it was, and else these bytes are there
+abbrev pub IsStored : List ℕ → Option Coming → Tree → Tree → Type 0
+IsStored come None before now = ⊥
+IsStored come (Some file) before now = (sha256 come ≡ file.digest) × GetsMail file.digest come before now
 
 -- what the store has behind a message: a whole file by its own digest; of one that begins or goes on what has come of it; and by the digest that was told one that has come
 abbrev pub Stores : Kind → List ℕ → Option Coming → Tree → Option Coming → Tree → Type 0
-Stores kind.Whole bytes old before new now = now (stored_path (sha256 bytes)) ≡ Some bytes
+Stores kind.Whole bytes old before new now = GetsMail (sha256 bytes) bytes before now
 Stores kind.Begin bytes old before new now = HasPart [] new now
 Stores kind.Piece bytes old before new now = (come : List ℕ) → HasPart come old before → HasPart (come ++ bytes) new now
-Stores kind.End bytes old before new now = (come : List ℕ) → HasPart come old before → IsStored come old now
+Stores kind.End bytes old before new now = (come : List ℕ) → HasPart come old before → IsStored come old before now
 Stores other bytes old before new now = ⊥
+
+-- a list without this digest
+abbrev pub without : List ℕ → List (List ℕ) → List (List ℕ)
+without digest lacking = remove_key (is_at (slice_cmp nat_cmp digest)) lacking
+
+-- which files lack behind a message: those that lacked before, but for one that came, as a whole or to its end
+abbrev pub LacksLess : Kind → List ℕ → Option Coming → (old new : List (List ℕ)) → Type 0
+LacksLess kind.Whole bytes coming old new = new ≡ without (sha256 bytes) old
+LacksLess kind.End bytes (Some file) old new = new ≡ without file.digest old
+LacksLess other bytes coming old new = new ≡ old
 
 module _ {F : Type 0} (seen : F → Tree) (may_leave : F → Tree → Type 0) where
   -- whatever a crash leaves then, the file that came is in the store

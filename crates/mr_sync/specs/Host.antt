@@ -18,7 +18,7 @@ use Rattle.mr_sync.specs.Asking.{AsksMet, IsMetAskFault, TakesMetAsk}
 use Rattle.mr_sync.specs.Ending.{EndsBy, IsEndFault, MayEnd}
 use Rattle.mr_sync.specs.Hello.{IsHelloFault, IsHelloOf, IsJudgeFault, Judges, met_at}
 use Rattle.mr_sync.specs.Idle.{AreIdle}
-use Rattle.mr_sync.specs.Taken.{TakesReceipts, TakesRecords}
+use Rattle.mr_sync.specs.Taken.{TakesReceipts}
 use Rattle.mr_sync.specs.declared.coming.Coming.{Coming}
 use Rattle.mr_sync.specs.declared.fault.SyncFault.{SyncFault}
 use Rattle.mr_sync.specs.declared.host.FolderHost.{FolderHost}
@@ -162,10 +162,6 @@ module _ {D F : Type 0} where
   pub record SameOthers (old new : FolderHost D F) : Type 0 where
     pub theirs_are : theirs_of new ≡ theirs_of old
     pub meetings_are : meetings_of new ≡ meetings_of old
-
-  -- the folder takes the records that the bytes are, packed behind the last one that came, all of them
-  abbrev pub TakesRecordsOf : FolderHost D F → List ℕ → FolderHost D F → Type 0
-  TakesRecordsOf old bytes new = TakesRecords (theirs_of old) (last_of old) (replica_of (journaled_of old)) bytes (last_of new) (replica_of (journaled_of new))
 
   -- the folder takes the receipts that the bytes are, all of them
   abbrev pub TakesReceiptsOf : FolderHost D F → List ℕ → FolderHost D F → Type 0

@@ -8,6 +8,7 @@ pub mod Steps
 pub mod Idle
 pub mod Lists
 pub mod Marks
+pub mod Named
 pub mod Rows
 pub mod Taken
 pub mod inner

@@ -1,7 +1,8 @@
 -- what comes, and what a log has of it
-use Rattle.std.specs.Prelude.{◌≡◌, ◌⊎◌, ◌++◌, ℕ, List, [], ◌∷◌, map, Option, Some, None, option_map, Ok, Err}
+use Rattle.std.specs.Prelude.{◌≡◌, ◌⊎◌, ◌++◌, ℕ, Bool, IsTrue, All, List, [], ◌∷◌, map, Option, Some, None, option_map, Ok, Err}
 use Rattle.std.specs.BTreeMap.{insert_entry}
 use Rattle.std.specs.List.{AllByRecursion, flat_map}
+use Rattle.mr_folder.specs.Tree.{Tree}
 use Rattle.mr_itemset.specs.Normal.{Normal}
 use Rattle.mr_itemset.specs.Sparing.{sparing_form}
 use Rattle.mr_replica.specs.State.{State}
@@ -18,6 +19,7 @@ use Rattle.mr_wire.specs.declared.frame.Frame.{Frame}
 use Rattle.mr_wire.specs.declared.frame.Frame.TheVariants as frame
 use Rattle.mr_wire.specs.declared.frame.Receipt.{Receipt}
 use Rattle.mr_sync.specs.declared.lists.PushOut.{PushOut}
+use Rattle.mr_sync.specs.Named.{HasOrListsOf, is_listed}
 use Rattle.mr_sync.specs.Lists.{IsDigest, IsPushOut, push_out_bytes}
 
 -- the bytes are those of these frames, one after the other
@@ -61,6 +63,15 @@ pub record TakesRecords (theirs : Option Hello) (last : List ℕ) (old : State N
   pub spelled : AreFrames frames text
   pub given : AllByRecursion (IsRecordOf other) frames
   pub log : new.log ≡ old.log ++ map Receive frames
+
+-- what is on the one list is on the other
+abbrev pub AllStay : List (List ℕ) → List (List ℕ) → Type 0
+AllStay old new = (digest : List ℕ) → IsTrue (is_listed old digest) → IsTrue (is_listed new digest)
+
+-- records are taken so, and of each file that one of them needs the store has one by its digest, or it is on the list of those that are lacking
+pub record TakesNamed (is_told : Bool) (theirs : Option Hello) (last : List ℕ) (old : State Normal) (bytes after : List ℕ) (new : State Normal) (tree : Tree) (lacking : List (List ℕ)) : Type 0 where
+  pub taken : TakesRecords theirs last old bytes after new
+  pub named : IsTrue is_told → All (HasOrListsOf tree lacking) taken.frames
 
 -- A receipt lets go of the push-outs that it is for; or it is for none, which changes nothing.
 abbrev pub LetsGo : State Normal → Receipt → State Normal → Type 0

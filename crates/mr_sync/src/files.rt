@@ -2,10 +2,10 @@
 ghost use Rattle.std.specs.Prelude.{◌≡◌, ℕ, false, List, [], Some, is_some, option_map, IsTrue, IfErr, IfOk, OnOk};
 ghost use Rattle.sha2.specs.Sha256.{sha256};
 ghost use Rattle.mr_folder.specs.Inside.{draft_path, stored_path};
-ghost use Rattle.mr_folder.specs.Store.{HasCome, IsKept, IsSound, OnlyStored, StaysSound};
+ghost use Rattle.mr_folder.specs.Store.{GetsMail, HasCome, IsKept, IsSound, KeepsMails, OnlyStored, StaysSound};
 ghost use Rattle.mr_folder.specs.Tree.{OnlyAt};
 ghost use Rattle.mr_talk.specs.declared.kind.Kind.TheVariants as kinds;
-ghost use Rattle.mr_sync.specs.Files.{GoesWith, KeepsFile, Stores};
+ghost use Rattle.mr_sync.specs.Files.{GoesWith, KeepsFile, LacksLess, Stores};
 
 use crate::coming::Coming;
 use crate::fault::SyncFault;
@@ -27,6 +27,7 @@ fn take_begin<F: FileTree>(
     ensures stores { IsTrue F.is_told → OnOk result (Stores kinds.Begin bytes.now coming.old (F.seen files.old) coming.new (F.seen files.new)) }
     ensures only { IsTrue F.is_told → OnlyAt draft_path (F.seen files.old) (F.seen files.new) }
     ensures sound { IsTrue F.is_told → IsSound F.seen F.may_leave files.old → StaysSound F.seen F.may_leave F.moment F.left_since files.old files.new }
+    ensures mails { IsTrue F.is_told → KeepsMails F.seen F.may_leave F.moment F.left_since files.old files.new }
 {
     if coming.is_some() {
         return Err(SyncFault::NoFile);
@@ -57,6 +58,7 @@ fn take_piece<F: FileTree>(
     ensures stores { IsTrue F.is_told → OnOk result (Stores kinds.Piece bytes.now coming.old (F.seen files.old) coming.new (F.seen files.new)) }
     ensures only { IsTrue F.is_told → OnlyAt draft_path (F.seen files.old) (F.seen files.new) }
     ensures sound { IsTrue F.is_told → IsSound F.seen F.may_leave files.old → StaysSound F.seen F.may_leave F.moment F.left_since files.old files.new }
+    ensures mails { IsTrue F.is_told → KeepsMails F.seen F.may_leave F.moment F.left_since files.old files.new }
 {
     let Some(file) = coming else {
         return Err(SyncFault::NoFile);
@@ -81,12 +83,13 @@ pub(crate) fn end_file<F: FileTree>(
     ensures whole { OnOk result (coming.left ≡ 0) }
     ensures of_digest { (come : List ℕ) (tree : List ℕ → _) → HasCome come coming.incoming tree → OnOk result (sha256 come ≡ coming.digest) }
     ensures stored { IsTrue F.is_told → (come : List ℕ) → HasCome come coming.incoming (F.seen files.old)
-        → OnOk result (F.seen files.new (stored_path coming.digest) ≡ Some come) }
+        → OnOk result (GetsMail coming.digest come (F.seen files.old) (F.seen files.new)) }
     ensures kept { IsTrue F.is_told → (come : List ℕ) → HasCome come coming.incoming (F.seen files.old) → IsSound F.seen F.may_leave files.old
         → OnOk result (IsKept F.seen F.may_leave coming.digest files.new) }
     ensures only { IsTrue F.is_told → OnlyStored coming.digest (F.seen files.old) (F.seen files.new) }
     ensures sound { IsTrue F.is_told → (come : List ℕ) → HasCome come coming.incoming (F.seen files.old) → IsSound F.seen F.may_leave files.old
         → StaysSound F.seen F.may_leave F.moment F.left_since files.old files.new }
+    ensures mails { IsTrue F.is_told → KeepsMails F.seen F.may_leave F.moment F.left_since files.old files.new }
 {
     let Coming {
         incoming,
@@ -118,6 +121,8 @@ pub(crate) fn take_file_message<F: FileTree>(
     ensures stores { IsTrue F.is_told → OnOk result (Stores kind bytes.now talk.old.coming (F.seen files.old) talk.new.coming (F.seen files.new)) }
     ensures keeps { IsTrue F.is_told → IsSound F.seen F.may_leave files.old → OnOk result (KeepsFile F.seen F.may_leave kind bytes.now talk.old.coming files.old files.new) }
     ensures theirs { talk.new.theirs ≡ talk.old.theirs }
+    ensures mails { IsTrue F.is_told → KeepsMails F.seen F.may_leave F.moment F.left_since files.old files.new }
+    ensures lacking { OnOk result (LacksLess kind bytes.now talk.old.coming talk.old.arriving.lacking.keys talk.new.arriving.lacking.keys) }
 {
     talk.arriving.note_bytes(bytes);
     match kind {
@@ -140,6 +145,8 @@ fn take_whole<F: FileTree>(
     ensures stores { IsTrue F.is_told → OnOk result (Stores kinds.Whole bytes.now talk.old.coming (F.seen files.old) talk.new.coming (F.seen files.new)) }
     ensures keeps { IsTrue F.is_told → IsSound F.seen F.may_leave files.old → OnOk result (KeepsFile F.seen F.may_leave kinds.Whole bytes.now talk.old.coming files.old files.new) }
     ensures theirs { talk.new.theirs ≡ talk.old.theirs }
+    ensures mails { IsTrue F.is_told → KeepsMails F.seen F.may_leave F.moment F.left_since files.old files.new }
+    ensures lacking { OnOk result (LacksLess kinds.Whole bytes.now talk.old.coming talk.old.arriving.lacking.keys talk.new.arriving.lacking.keys) }
 {
     if talk.coming.is_some() {
         return Err(SyncFault::NoFile);
@@ -155,6 +162,8 @@ fn take_end<F: FileTree>(alloc: Global, files: &mut F, talk: &mut Talk) -> Resul
     ensures stores { IsTrue F.is_told → OnOk result (Stores kinds.End [] talk.old.coming (F.seen files.old) talk.new.coming (F.seen files.new)) }
     ensures keeps { IsTrue F.is_told → IsSound F.seen F.may_leave files.old → OnOk result (KeepsFile F.seen F.may_leave kinds.End [] talk.old.coming files.old files.new) }
     ensures theirs { talk.new.theirs ≡ talk.old.theirs }
+    ensures mails { IsTrue F.is_told → KeepsMails F.seen F.may_leave F.moment F.left_since files.old files.new }
+    ensures lacking { OnOk result (LacksLess kinds.End [] talk.old.coming talk.old.arriving.lacking.keys talk.new.arriving.lacking.keys) }
 {
     let Some(coming) = talk.coming.take() else {
         return Err(SyncFault::NoFile);

@@ -126,25 +126,36 @@ impl<D: Device + Drop, F: FileTree + Drop> FolderHost<D, F> {
 
 impl<D: Device + Drop, F: FileTree + Drop> Host for FolderHost<D, F> {
     ghost use Rattle.mr_sync.specs.Fault.{IsToldFor};
-    ghost use Rattle.mr_sync.specs.Files.{GoesWith, KeepsFile, Stores};
-    ghost use Rattle.mr_sync.specs.Host.{AsksOf, EndsBehind, GoesOnBehind, IsAskFaultOf, IsEndFaultOf, IsHelloFaultOf, IsHelloFrom, IsMeetFaultOf, JudgesOf, SameFolder, SameOthers, TakesAskOf, TakesReceiptsOf, TakesRecordsOf, WantsNoMore, coming_of, files_of, journaled_of, knows_of, log_of, theirs_of, waiting_of, wants_of};
+    ghost use Rattle.mr_sync.specs.Files.{GoesWith, KeepsFile, LacksLess, Stores};
+    ghost use Rattle.mr_sync.specs.Host.{AsksOf, EndsBehind, GoesOnBehind, IsAskFaultOf, IsEndFaultOf, IsHelloFaultOf, IsHelloFrom, IsMeetFaultOf, JudgesOf, SameFolder, SameOthers, TakesAskOf, TakesReceiptsOf, WantsNoMore, coming_of, files_of, journaled_of, knows_of, lacking_of, last_of, log_of, theirs_of, waiting_of, wants_of};
     ghost use Rattle.mr_sync.specs.Lists.{IsDigest, IsPushOut, ReadsList, push_out_bytes};
-    ghost use Rattle.mr_sync.specs.Steps.{FolderSteps};
-    ghost use Rattle.mr_talk.specs.Host.{Takes};
-    ghost use Rattle.mr_sync.specs.Taken.{GrowsOnlyByTheirs, LetsGoFor, TakesPushOuts, TakesRecordOf, TakesWants};
+    ghost use Rattle.mr_folder.proofs.KeepLemmas.{keeps_on as mails_on, keeps_still as mails_still};
+    ghost use Rattle.mr_sync.specs.Steps.{FolderSteps, KeepsFolder};
+    ghost use Rattle.mr_talk.specs.Host.{Asks, Closes, Gives, Greets, Keeps, KeepsFiles, Meets, Takes};
+    ghost use Rattle.mr_talk.specs.declared.kind.Kind.TheVariants as kind;
+    ghost use Rattle.mr_sync.specs.Taken.{AllStay, GrowsOnlyByTheirs, LetsGoFor, TakesNamed, TakesPushOuts, TakesRecordOf, TakesWants};
     ghost use Rattle.mr_sync.specs.declared.fault.SyncFault.TheVariants.{BadList, HalfFile};
 
-    ghost steps = { FolderSteps F.is_told F.seen };
+    ghost steps = { FolderSteps F.is_told F.seen F.may_leave F.moment F.left_since };
 
     ghost waits = { λ h. not (nothing_waits h.kept) };
 
     ghost files_wait = { λ h. is_some h.talk.coming };
+
+    ghost keeps = { KeepsFolder F.is_told F.seen F.may_leave F.moment F.left_since };
+
+    ghost keeps_still = { λ host told. mails_still (files_of host) (F.only_now (files_of host)) };
+
+    ghost keeps_on = { λ old between new first second told. mails_on (first told) (second told) };
+
+    ghost keeps_step = { λ old act new step. step.keeps };
 
     fn keep(&mut self) -> Result<(), HostFault>
         ensures kept { OnOk result (nothing_waits (journaled_of self.new) ≡ true) }
         ensures replica { replica_of (journaled_of self.new) ≡ replica_of (journaled_of self.old) }
         ensures files { files_of self.new ≡ files_of self.old }
         ensures others { SameOthers self.old self.new }
+        ensures step { FolderSteps F.is_told F.seen F.may_leave F.moment F.left_since self.old (Keeps result) self.new }
     {
         let kept = keep_and_say(self.alloc, &mut self.kept, &mut self.talk.leaving.said);
         answered(self.alloc, kept)
@@ -154,6 +165,7 @@ impl<D: Device + Drop, F: FileTree + Drop> Host for FolderHost<D, F> {
         ensures whole { OnOk result (is_some (coming_of self.new) ≡ false) }
         ensures unchanged { self.new ≡ self.old }
         ensures fault { IfErr result (λ fault. IsToldFor (λ of. (of ≡ HalfFile) × IsTrue (is_some (coming_of self.old))) fault.number) }
+        ensures step { FolderSteps F.is_told F.seen F.may_leave F.moment F.left_since self.old (KeepsFiles result) self.new }
     {
         let whole = check_whole(&self.talk.coming);
         answered(self.alloc, whole)
@@ -163,6 +175,7 @@ impl<D: Device + Drop, F: FileTree + Drop> Host for FolderHost<D, F> {
         ensures is { IfOk result (IsHelloFrom self.new (option_map (λ h. h.id) (option_copied theirs.entry))) }
         ensures unchanged { self.new ≡ self.old }
         ensures fault { IfErr result (λ fault. IsToldFor (IsHelloFaultOf self.old) fault.number) }
+        ensures step { FolderSteps F.is_told F.seen F.may_leave F.moment F.left_since self.old (Greets (option_copied theirs.entry) result) self.new }
     {
         let id = id_of(theirs);
         let hello = folder_hello(self.alloc, &self.kept, self.talk.arriving.lacks(), id);
@@ -174,6 +187,7 @@ impl<D: Device + Drop, F: FileTree + Drop> Host for FolderHost<D, F> {
         ensures noted { theirs_of self.new ≡ Some theirs.now }
         ensures unchanged { SameFolder self.old self.new }
         ensures fault { IfErr result (λ fault. IsToldFor (IsMeetFaultOf self.old theirs.now) fault.number) }
+        ensures step { FolderSteps F.is_told F.seen F.may_leave F.moment F.left_since self.old (Meets theirs.now result) self.new }
     {
         self.talk.theirs = Some(*theirs);
         let lacks = self.talk.arriving.lacks();
@@ -184,6 +198,8 @@ impl<D: Device + Drop, F: FileTree + Drop> Host for FolderHost<D, F> {
 
     fn ask(&mut self) -> Result<Vec<u8>, HostFault>
         ensures asks { IfOk result (λ bytes. AsksOf self.old bytes.items self.new) }
+        ensures files { files_of self.new ≡ files_of self.old }
+        ensures step { FolderSteps F.is_told F.seen F.may_leave F.moment F.left_since self.old (Asks result) self.new }
     {
         self.summary.is_idle = false;
         let bytes = ask(self.alloc, &mut self.kept, &mut self.talk);
@@ -192,6 +208,8 @@ impl<D: Device + Drop, F: FileTree + Drop> Host for FolderHost<D, F> {
 
     fn next_message(&mut self, turn: Turn) -> Result<Option<Message>, HostFault>
         ensures in_place { IfOk result (λ found. IfSome found (λ message. IsSome (next_of turn message.kind))) }
+        ensures files { IsTrue F.is_told → IsUntouched F.seen F.may_leave F.moment F.left_since (files_of self.old) (files_of self.new) }
+        ensures step { FolderSteps F.is_told F.seen F.may_leave F.moment F.left_since self.old (Gives turn result) self.new }
     {
         let next = next_said(
             self.alloc,
@@ -207,6 +225,7 @@ impl<D: Device + Drop, F: FileTree + Drop> Host for FolderHost<D, F> {
         ensures ends { IfOk result (λ found. MatchOption found (GoesOnBehind turn self.old self.new) (EndsBehind turn self.old self.new)) }
         ensures unchanged { SameFolder self.old self.new }
         ensures fault { IfErr result (λ fault. IsToldFor (IsEndFaultOf turn self.old) fault.number) }
+        ensures step { FolderSteps F.is_told F.seen F.may_leave F.moment F.left_since self.old (Closes turn result) self.new }
     {
         let end = end(self.alloc, &self.kept, &mut self.talk, turn);
         answered(self.alloc, end)
@@ -215,6 +234,8 @@ impl<D: Device + Drop, F: FileTree + Drop> Host for FolderHost<D, F> {
     fn take_ask(&mut self, bytes: &[u8]) -> Result<(), HostFault>
         ensures taken { OnOk result (TakesAskOf self.old bytes.now self.new) }
         ensures fault { IfErr result (λ fault. IsToldFor (IsAskFaultOf self.old bytes.now self.new) fault.number) }
+        ensures files { files_of self.new ≡ files_of self.old }
+        ensures step { FolderSteps F.is_told F.seen F.may_leave F.moment F.left_since self.old (Takes (record { kind = kind.Ask; bytes = bytes.now }) result) self.new }
     {
         let taken = take_ask(self.alloc, &mut self.kept, &mut self.talk, bytes);
         answered(self.alloc, taken)
@@ -225,9 +246,10 @@ impl<D: Device + Drop, F: FileTree + Drop> Host for FolderHost<D, F> {
         ensures stores { IsTrue F.is_told → OnOk result (Stores message.now.kind message.now.bytes (coming_of self.old) (F.seen (files_of self.old)) (coming_of self.new) (F.seen (files_of self.new))) }
         ensures keeps { IsTrue F.is_told → IsSound F.seen F.may_leave (files_of self.old)
             → OnOk result (KeepsFile F.seen F.may_leave message.now.kind message.now.bytes (coming_of self.old) (files_of self.old) (files_of self.new)) }
+        ensures lacking { OnOk result (LacksLess message.now.kind message.now.bytes (coming_of self.old) (lacking_of self.old) (lacking_of self.new)) }
         ensures journaled { journaled_of self.new ≡ journaled_of self.old }
         ensures others { SameOthers self.old self.new }
-        ensures step { FolderSteps F.is_told F.seen self.old (Takes message.now result) self.new }
+        ensures step { FolderSteps F.is_told F.seen F.may_leave F.moment F.left_since self.old (Takes message.now result) self.new }
     {
         let kind = message.kind();
         let bytes = message.bytes();
@@ -239,6 +261,7 @@ impl<D: Device + Drop, F: FileTree + Drop> Host for FolderHost<D, F> {
         ensures taken { OnOk result (WantsNoMore digest.now self.old self.new) }
         ensures unchanged { SameFolder self.old self.new }
         ensures fault { IfErr result (λ fault. IsToldFor (λ of. (of ≡ BadList) × ¬ IsDigest digest.now) fault.number) }
+        ensures step { FolderSteps F.is_told F.seen F.may_leave F.moment F.left_since self.old (Takes (record { kind = kind.Missing; bytes = digest.now }) result) self.new }
     {
         let taken = take_missing(&mut self.talk, digest);
         answered(self.alloc, taken)
@@ -246,10 +269,12 @@ impl<D: Device + Drop, F: FileTree + Drop> Host for FolderHost<D, F> {
 
     fn take_records(&mut self, frames: &[u8]) -> Result<(), HostFault>
         requires { is_some (coming_of self.old) ≡ false }
-        ensures taken { OnOk result (TakesRecordsOf self.old frames.now self.new) }
+        ensures taken { OnOk result (TakesNamed F.is_told (theirs_of self.old) (last_of self.old) (replica_of (journaled_of self.old)) frames.now (last_of self.new) (replica_of (journaled_of self.new)) (F.seen (files_of self.new)) (lacking_of self.new)) }
+        ensures listed { OnOk result (AllStay (lacking_of self.old) (lacking_of self.new)) }
         ensures grows { GrowsOnlyByTheirs TakesRecordOf (theirs_of self.old) (log_of self.old) (log_of self.new) }
         ensures files { IsTrue F.is_told → IsUntouched F.seen F.may_leave F.moment F.left_since (files_of self.old) (files_of self.new) }
         ensures others { SameOthers self.old self.new }
+        ensures step { FolderSteps F.is_told F.seen F.may_leave F.moment F.left_since self.old (Takes (record { kind = kind.Records; bytes = frames.now }) result) self.new }
     {
         let taken = take_records_message(
             self.alloc,
@@ -265,6 +290,7 @@ impl<D: Device + Drop, F: FileTree + Drop> Host for FolderHost<D, F> {
         ensures taken { OnOk result (TakesWants (wants_of self.old) digests.now (wants_of self.new)) }
         ensures unchanged { SameFolder self.old self.new }
         ensures fault { IfErr result (λ fault. IsToldFor (λ of. ReadsList IsDigest (λ (d : List ℕ). d) digests.now (Err of)) fault.number) }
+        ensures step { FolderSteps F.is_told F.seen F.may_leave F.moment F.left_since self.old (Takes (record { kind = kind.Wants; bytes = digests.now }) result) self.new }
     {
         let taken = take_wants(self.alloc, &mut self.talk.leaving.wants, digests);
         answered(self.alloc, taken)
@@ -274,6 +300,7 @@ impl<D: Device + Drop, F: FileTree + Drop> Host for FolderHost<D, F> {
         ensures taken { OnOk result (TakesPushOuts (waiting_of self.old) versions.now (waiting_of self.new)) }
         ensures unchanged { SameFolder self.old self.new }
         ensures fault { IfErr result (λ fault. IsToldFor (λ of. ReadsList IsPushOut push_out_bytes versions.now (Err of)) fault.number) }
+        ensures step { FolderSteps F.is_told F.seen F.may_leave F.moment F.left_since self.old (Takes (record { kind = kind.PushOuts; bytes = versions.now }) result) self.new }
     {
         let taken = take_push_outs(self.alloc, &mut self.talk.waiting, versions);
         answered(self.alloc, taken)
@@ -284,6 +311,7 @@ impl<D: Device + Drop, F: FileTree + Drop> Host for FolderHost<D, F> {
         ensures grows { GrowsOnlyByTheirs LetsGoFor (theirs_of self.old) (log_of self.old) (log_of self.new) }
         ensures files { files_of self.new ≡ files_of self.old }
         ensures others { SameOthers self.old self.new }
+        ensures step { FolderSteps F.is_told F.seen F.may_leave F.moment F.left_since self.old (Takes (record { kind = kind.Receipts; bytes = frames.now }) result) self.new }
     {
         let taken = take_receipts_message(self.alloc, &mut self.kept, &mut self.talk, frames);
         let released = answered(self.alloc, taken)?;
@@ -295,6 +323,7 @@ impl<D: Device + Drop, F: FileTree + Drop> Host for FolderHost<D, F> {
         ensures knows { OnOk result (knows_of self.new ≡ Some knows.now) }
         ensures unchanged { SameFolder self.old self.new }
         ensures fault { IfErr result (λ fault. IsToldFor (λ of. (of ≡ BadList) × (length knows.now ≢ 16)) fault.number) }
+        ensures step { FolderSteps F.is_told F.seen F.may_leave F.moment F.left_since self.old (Takes (record { kind = kind.Done; bytes = knows.now }) result) self.new }
     {
         let taken = take_done(&mut self.talk.knows, knows);
         answered(self.alloc, taken)

@@ -20,7 +20,6 @@ mod coming;
 mod ending;
 mod fault;
 mod files;
-mod hashing;
 mod hello;
 mod host;
 mod idle;

@@ -1,8 +1,9 @@
 //! Files that records name, but for those of mail that is gone.
-ghost use Rattle.std.specs.Prelude.{◌≡◌, IfSome, Some, None, true, false};
+ghost use Rattle.std.specs.Prelude.{◌≡◌, ℕ, List, IfSome, Some, None, true, false, option_map};
 ghost use Rattle.std.specs.Str.{IsUtf8};
 ghost use Rattle.mr_maildir.specs.Reference.{IsReference, ReferenceParts, reference_text};
-ghost use Rattle.mr_sync.specs.inner.Named.{IsFileOf, needs_file};
+ghost use Rattle.mr_sync.specs.Named.{BodyNeeds, FrameNeeds, NeedsFile, needs_file};
+ghost use Rattle.mr_sync.specs.inner.Named.{IsFileOf};
 
 use mr_compare::Digest;
 use mr_mail::{Flag, Message};
@@ -45,6 +46,7 @@ pub(crate) fn needed_file(message: &Message) -> Option<Digest>
     ensures refers { IfSome result (IsFileOf message.now.body) }
     ensures whole { needs_file message.now ≡ true → (parts : ReferenceParts) → IsReference parts → IsUtf8 message.now.body
         → reference_text parts ≡ message.now.body → result ≡ Some parts.digest }
+    ensures needs { (digest : List ℕ) → NeedsFile message.now digest → result ≡ Some digest }
 {
     if !needs_file(message) {
         return None;
@@ -61,8 +63,23 @@ pub(crate) fn revision_in(sent: &Record) -> Option<&Revision> {
 }
 
 /// The file that a record's revision refers to, if the mail needs it.
-pub(crate) fn file_in(sent: &Record) -> Option<NamedFile> {
-    let revision = revision_in(sent)?;
+pub(crate) fn file_in(sent: &Record) -> Option<NamedFile>
+    ensures { (digest : List ℕ) → BodyNeeds sent.now.body digest → option_map (λ f. f.digest) result ≡ Some digest }
+{
+    match sent.body() {
+        Body::Item(revision) => file_named(revision),
+        Body::Start(_) => None,
+        Body::MoveOut(_) => None,
+        Body::Held(_) => None,
+        Body::Know(_) => None,
+        Body::End => None,
+    }
+}
+
+/// The file that a revision refers to, if the mail needs it.
+fn file_named(revision: &Revision) -> Option<NamedFile>
+    ensures { (digest : List ℕ) → NeedsFile revision.now.message digest → option_map (λ f. f.digest) result ≡ Some digest }
+{
     let digest = needed_file(revision.message())?;
     Some(NamedFile {
         item: revision.item(),
@@ -71,9 +88,12 @@ pub(crate) fn file_in(sent: &Record) -> Option<NamedFile> {
 }
 
 /// The file that the record in a frame refers to, if the mail needs it.
-pub(crate) fn file_in_frame(frame: &Frame) -> Option<NamedFile> {
+pub(crate) fn file_in_frame(frame: &Frame) -> Option<NamedFile>
+    ensures { (digest : List ℕ) → FrameNeeds frame.now digest → option_map (λ f. f.digest) result ≡ Some digest }
+{
     match frame {
         Frame::Record(sent) => file_in(sent),
-        _ => None,
+        Frame::Ask(_) => None,
+        Frame::Receipt(_) => None,
     }
 }

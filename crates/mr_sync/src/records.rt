@@ -1,10 +1,13 @@
 //! Records that come.
-ghost use Rattle.std.specs.Prelude.{◌≡◌, ◌++◌, ◌∷◌, [], None, IfOk, IsTrue, MatchResult, OnOk, Some, is_some, map, option_map};
+ghost use Rattle.std.specs.Prelude.{◌≡◌, ◌++◌, ◌||◌, ◌∷◌, ℕ, List, [], All, None, IfOk, IsTrue, MatchResult, OnOk, Some, is_some, map, option_map};
+ghost use Rattle.std.specs.Cmp.Lexicographic.{slice_cmp};
+ghost use Rattle.std.specs.Ordering.{is_eq, nat_cmp};
 ghost use Rattle.mr_folder.specs.Inside.{stored_path};
 ghost use Rattle.mr_folder.specs.Tree.{IsUntouched};
 ghost use Rattle.mr_kept.specs.Kept.{replica_of};
 ghost use Rattle.mr_replica.specs.declared.event.Event.TheVariants as event;
-ghost use Rattle.mr_sync.specs.Taken.{AreFrames, GrowsOnlyBy, GrowsOnlyByTheirs, IsRecordOf, TakesRecordOf, TakesRecords};
+ghost use Rattle.mr_sync.specs.Named.{HasOrListsOf, is_listed};
+ghost use Rattle.mr_sync.specs.Taken.{AllStay, AreFrames, GrowsOnlyBy, GrowsOnlyByTheirs, IsRecordOf, TakesNamed, TakesRecordOf};
 ghost use Rattle.mr_sync.specs.inner.Taken.{IsNoRecordOf};
 
 use crate::fault::SyncFault;
@@ -21,7 +24,7 @@ use mr_replica::Received;
 use mr_talk::Hello;
 use mr_version::Author;
 use mr_wire::{Body, Frame, decode};
-use std::alloc::Global;
+use std::alloc::{AllocError, Global};
 use std::collections::BTreeSet;
 
 /// How many bytes of records and files may come before the records are kept. Where the program is killed, as much goes once more, and the
@@ -55,6 +58,8 @@ pub(crate) fn note_lacking<F: FileTree>(
     frames: &[Frame],
     lacking: &mut BTreeSet<Digest>,
 ) -> Result<(), SyncFault>
+    ensures named { IsTrue F.is_told → OnOk result (All (HasOrListsOf (F.seen files.new) lacking.new.keys) frames.now) }
+    ensures stay { OnOk result (AllStay lacking.old.keys lacking.new.keys) }
     ensures untouched { IsTrue F.is_told → IsUntouched F.seen F.may_leave F.moment F.left_since files.old files.new }
 {
     for frame in frames {
@@ -70,15 +75,28 @@ fn note_file<F: FileTree>(
     frame: &Frame,
     lacking: &mut BTreeSet<Digest>,
 ) -> Result<(), SyncFault>
+    ensures named { IsTrue F.is_told → OnOk result (HasOrListsOf (F.seen files.new) lacking.new.keys frame.now) }
+    ensures stay { OnOk result (AllStay lacking.old.keys lacking.new.keys) }
     ensures untouched { IsTrue F.is_told → IsUntouched F.seen F.may_leave F.moment F.left_since files.old files.new }
 {
     let Some(file) = file_in_frame(frame) else {
         return Ok(());
     };
     let digest = file.digest;
-    if !has_file(alloc, files, &digest)? {
-        lacking.insert(digest)?;
+    let is_there = has_file(alloc, files, &digest)?;
+    if is_there {
+        return Ok(());
     }
+    list(lacking, digest)?;
+    Ok(())
+}
+
+/// Puts the digest on the list.
+fn list(lacking: &mut BTreeSet<Digest>, digest: Digest) -> Result<(), AllocError>
+    ensures { OnOk result ((other : List ℕ) → is_listed lacking.new.keys other
+        ≡ (is_listed lacking.old.keys other || is_eq (slice_cmp nat_cmp digest other))) }
+{
+    lacking.insert(digest)?;
     Ok(())
 }
 
@@ -107,6 +125,7 @@ pub(crate) fn take_records<D: Device + Drop>(
 ) -> Result<(), SyncFault>
     ensures grows { GrowsOnlyBy (TakesRecordOf source) (replica_of kept.old).log (replica_of kept.new).log }
     ensures last { arriving.new.last ≡ arriving.old.last }
+    ensures lacking { arriving.new.lacking ≡ arriving.old.lacking }
     ensures all { OnOk result ((replica_of kept.new).log ≡ (replica_of kept.old).log ++ map event.Receive frames.items) }
 {
     for frame in frames {
@@ -164,7 +183,8 @@ pub(crate) fn take_records_message<D: Device + Drop, F: FileTree>(
     talk: &mut Talk,
     bytes: &[u8],
 ) -> Result<(), SyncFault>
-    ensures taken { OnOk result (TakesRecords talk.old.theirs talk.old.arriving.last (replica_of kept.old) bytes.now talk.new.arriving.last (replica_of kept.new)) }
+    ensures taken { OnOk result (TakesNamed F.is_told talk.old.theirs talk.old.arriving.last (replica_of kept.old) bytes.now talk.new.arriving.last (replica_of kept.new) (F.seen files.new) talk.new.arriving.lacking.keys) }
+    ensures stay { OnOk result (AllStay talk.old.arriving.lacking.keys talk.new.arriving.lacking.keys) }
     ensures grows { GrowsOnlyByTheirs TakesRecordOf talk.old.theirs (replica_of kept.old).log (replica_of kept.new).log }
     ensures theirs { talk.new.theirs ≡ talk.old.theirs }
     ensures untouched { IsTrue F.is_told → IsUntouched F.seen F.may_leave F.moment F.left_since files.old files.new }
@@ -185,6 +205,7 @@ fn keep_much<D: Device + Drop>(
 ) -> Result<(), SyncFault>
     ensures replica { replica_of kept.new ≡ replica_of kept.old }
     ensures last { talk.new.arriving.last ≡ talk.old.arriving.last }
+    ensures lacking { talk.new.arriving.lacking ≡ talk.old.arriving.lacking }
     ensures theirs { talk.new.theirs ≡ talk.old.theirs }
 {
     if talk.arriving.unkept < UNKEPT_BYTES {

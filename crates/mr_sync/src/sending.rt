@@ -1,18 +1,12 @@
 //! Files that go, piece by piece.
-ghost use Rattle.std.specs.Prelude.{◌≡◌, ◌≢◌, ◌+◌, ◌++◌, ◌≤◌, Some, IsTrue, IfOk, IfSome, MatchOption, length, vec_len};
-ghost use Rattle.sha2.specs.Sha256.{sha256};
-ghost use Rattle.mr_folder.specs.Inside.{stored_path};
-ghost use Rattle.mr_folder.specs.Tree.{IsUntouched};
+ghost use Rattle.std.specs.Prelude.{◌≡◌, ◌++◌, ◌≤◌, IfOk, length, vec_len};
 ghost use Rattle.mr_talk.specs.Kinds.{limit_of};
 ghost use Rattle.mr_wire.specs.Spelling.{u64};
 ghost use Rattle.mr_talk.specs.declared.kind.Kind.TheVariants as kind;
 ghost use Rattle.mr_sync.specs.inner.Sending.{GoesOn};
 
-use crate::fault::SyncFault;
-use crate::hashing::has_digest;
 use crate::lists::begin_bytes;
 use mr_compare::Digest;
-use mr_folder::{FilePath, FileTree};
 use mr_talk::{Kind, MAX_PIECE_BYTES, Message};
 use std::alloc::{AllocError, Global};
 
@@ -33,29 +27,6 @@ pub(crate) fn message_of(kind: Kind, bytes: Vec<u8>) -> Message
     match Message::new(kind, bytes) {
         Ok(message) => message,
         Err(_) => unreachable!(),
-    }
-}
-
-/// The file's bytes, if the store has them and they have its digest: one that is damaged is as good as none.
-pub(crate) fn whole_file<F: FileTree>(
-    alloc: Global,
-    files: &mut F,
-    digest: &Digest,
-) -> Result<Option<Vec<u8>>, SyncFault>
-    ensures digest { IfOk result (λ found. IfSome found (λ bytes. sha256 bytes.items ≡ digest.now)) }
-    ensures exact { IsTrue F.is_told → IfOk result (λ found. MatchOption found
-        (IfSome (F.seen files.old (stored_path digest.now)) (λ bytes. sha256 bytes ≢ digest.now))
-        (λ bytes. F.seen files.old (stored_path digest.now) ≡ Some bytes.items)) }
-    ensures untouched { IsTrue F.is_told → IsUntouched F.seen F.may_leave F.moment F.left_since files.old files.new }
-{
-    let path = FilePath::stored(alloc, digest)?;
-    let Some(bytes) = files.read(alloc, &path)? else {
-        return Ok(None);
-    };
-    if has_digest(&bytes, digest) {
-        Ok(Some(bytes))
-    } else {
-        Ok(None)
     }
 }
 

@@ -1,6 +1,7 @@
 //! What a talk has open.
 ghost use Rattle.std.specs.Prelude.{◌≡◌, ◌==◌, not, [], None};
 ghost use Rattle.std.specs.BTreeSet.{btree_set_len};
+ghost use Rattle.mr_sync.specs.Files.{without};
 
 use crate::coming::Coming;
 use crate::said::Said;
@@ -68,7 +69,8 @@ impl Arriving {
 
     /// Notes what came of a record, and whether that tells a revision.
     pub(crate) fn note(&mut self, is_item: bool, received: Received)
-        ensures { self.new.last ≡ self.old.last }
+        ensures last { self.new.last ≡ self.old.last }
+        ensures lacking { self.new.lacking ≡ self.old.lacking }
     {
         match received {
             Received::Took if is_item => self.taken = self.taken.saturating_add(1),
@@ -79,7 +81,9 @@ impl Arriving {
     }
 
     /// Notes that a file came.
-    pub(crate) fn note_file(&mut self, digest: &Digest) {
+    pub(crate) fn note_file(&mut self, digest: &Digest)
+        ensures { self.new.lacking.keys ≡ without digest.now self.old.lacking.keys }
+    {
         // it need not have been lacking, nor wanted
         let _ = self.lacking.remove(digest);
         let _ = self.wanted.remove(digest);

@@ -1,5 +1,6 @@
 //! What is told in a turn.
-ghost use Rattle.std.specs.Prelude.{◌≡◌, IfOk, IfSome, IsSome, is_some};
+ghost use Rattle.std.specs.Prelude.{◌≡◌, IfOk, IfSome, IsSome, IsTrue, is_some};
+ghost use Rattle.mr_folder.specs.Tree.{IsUntouched};
 ghost use Rattle.mr_talk.specs.Turns.{next_of};
 ghost use Rattle.mr_talk.specs.declared.kind.Kind.TheVariants as kind;
 ghost use Rattle.mr_sync.specs.inner.Telling.{IsGiven, IsOfKind, IsOpened, IsWantedFile, TellsRevisions};
@@ -8,12 +9,12 @@ use crate::fault::SyncFault;
 use crate::lists::{PUSH_OUT_BYTES, push_out_list};
 use crate::packed::records_message;
 use crate::said::{frames_message, keep_and_say};
-use crate::sending::{Sending, begin_message, file_message, message_of, whole_file};
+use crate::sending::{Sending, begin_message, file_message, message_of};
 use crate::talk::{Leaving, Talk};
 use crate::vouching::vouch_held;
 use crate::wants::wants_message;
 use mr_compare::Digest;
-use mr_folder::FileTree;
+use mr_folder::{FileTree, read_mail};
 use mr_itemset::SparingKnowledge;
 use mr_journal::Device;
 use mr_kept::Journaled;
@@ -40,7 +41,8 @@ pub(crate) fn next_said<D: Device + Drop, F: FileTree>(
     talk: &mut Talk,
     turn: Turn,
 ) -> Result<Option<Message>, SyncFault>
-    ensures { IfOk result (λ found. IfSome found (λ message. IsSome (next_of turn message.kind))) }
+    ensures in_place { IfOk result (λ found. IfSome found (λ message. IsSome (next_of turn message.kind))) }
+    ensures untouched { IsTrue F.is_told → IsUntouched F.seen F.may_leave F.moment F.left_since files.old files.new }
 {
     if let Some(message) = next_asked_for(alloc, kept, files, &mut talk.leaving, turn)? {
         return Ok(Some(message));
@@ -72,7 +74,8 @@ fn next_asked_for<D: Device + Drop, F: FileTree>(
     leaving: &mut Leaving,
     turn: Turn,
 ) -> Result<Option<Message>, SyncFault>
-    ensures { IfOk result (λ found. IfSome found (λ message. IsSome (next_of turn message.kind))) }
+    ensures in_place { IfOk result (λ found. IfSome found (λ message. IsSome (next_of turn message.kind))) }
+    ensures untouched { IsTrue F.is_told → IsUntouched F.seen F.may_leave F.moment F.left_since files.old files.new }
 {
     match turn {
         Turn::CallerTells | Turn::CalledTells => next_told(alloc, kept, files, leaving),
@@ -93,7 +96,8 @@ fn next_receipts<D: Device + Drop, F: FileTree>(
     talk: &mut Talk,
     number: u8,
 ) -> Result<Option<Message>, SyncFault>
-    ensures { IfOk result (λ found. IfSome found (λ message. message.kind ≡ kind.Receipts)) }
+    ensures kind { IfOk result (λ found. IfSome found (λ message. message.kind ≡ kind.Receipts)) }
+    ensures untouched { IsTrue F.is_told → IsUntouched F.seen F.may_leave F.moment F.left_since files.old files.new }
 {
     if talk.vouched_in != number {
         let vouched = vouch_held(alloc, kept, files, &mut talk.waiting)?;
@@ -112,7 +116,8 @@ fn next_told<D: Device + Drop, F: FileTree>(
     files: &mut F,
     leaving: &mut Leaving,
 ) -> Result<Option<Message>, SyncFault>
-    ensures { IfOk result (λ found. IfSome found (λ message. IsGiven message.kind)) }
+    ensures kind { IfOk result (λ found. IfSome found (λ message. IsGiven message.kind)) }
+    ensures untouched { IsTrue F.is_told → IsUntouched F.seen F.may_leave F.moment F.left_since files.old files.new }
 {
     draw(alloc, kept, leaving)?;
     if let Some(message) = next_file(alloc, files, leaving)? {
@@ -163,7 +168,8 @@ fn next_file<F: FileTree>(
     files: &mut F,
     leaving: &mut Leaving,
 ) -> Result<Option<Message>, SyncFault>
-    ensures { IfOk result (λ found. IfSome found (λ message. IsOfKind kind.Whole kind.Begin message.kind)) }
+    ensures kind { IfOk result (λ found. IfSome found (λ message. IsOfKind kind.Whole kind.Begin message.kind)) }
+    ensures untouched { IsTrue F.is_told → IsUntouched F.seen F.may_leave F.moment F.left_since files.old files.new }
 {
     for _ in 0..leaving.said.files.len() {
         let Some(file) = leaving.said.next_file() else {
@@ -195,8 +201,9 @@ fn open_file<F: FileTree>(
 ) -> Result<Option<Message>, SyncFault>
     ensures kind { IfOk result (λ found. IfSome found (λ message. IsOfKind kind.Whole kind.Begin message.kind)) }
     ensures told { IfOk result (λ found. IfSome found (λ message. IsOpened digest.now message sending.old sending.new)) }
+    ensures untouched { IsTrue F.is_told → IsUntouched F.seen F.may_leave F.moment F.left_since files.old files.new }
 {
-    let Some(bytes) = whole_file(alloc, files, digest)? else {
+    let Some(bytes) = read_mail(alloc, files, digest)? else {
         return Ok(None);
     };
     if bytes.len() <= MAX_PIECE_BYTES as usize {
@@ -213,7 +220,8 @@ fn next_wanted_file<F: FileTree>(
     files: &mut F,
     leaving: &mut Leaving,
 ) -> Result<Option<Message>, SyncFault>
-    ensures { IfOk result (λ found. IfSome found (λ message. IsWantedFile message.kind)) }
+    ensures kind { IfOk result (λ found. IfSome found (λ message. IsWantedFile message.kind)) }
+    ensures untouched { IsTrue F.is_told → IsUntouched F.seen F.may_leave F.moment F.left_since files.old files.new }
 {
     let Some(digest) = leaving.wants.pop_front() else {
         return Ok(None);

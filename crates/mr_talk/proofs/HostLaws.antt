@@ -24,6 +24,12 @@ pub acts_append : {S : Type 0} (steps : S → Act → S → Type 0) (old between
 acts_append steps old between new [] rest a b = subst (λ x. Acts steps x rest new) (sym a) b
 acts_append steps old between new (act ∷ first) rest a b = (a.0, a.1, acts_append steps a.0 between new first rest a.2 b)
 
+-- what each call keeps, all of them keep
+pub acts_keep : {S : Type 0} (steps : S → Act → S → Type 0) (keeps : S → S → Type 0) → ((s : S) → keeps s s) → ((a b c : S) → keeps a b → keeps b c → keeps a c) → ((old : S) (act : Act) (new : S) → steps old act new → keeps old new) →
+    (old new : S) (acts : List Act) → Acts steps old acts new → keeps old new
+acts_keep steps keeps still on step old new [] same = subst (keeps old) same (still old)
+acts_keep steps keeps still on step old new (act ∷ acts) (between, first, rest) = on old between new (step old act between first) (acts_keep steps keeps still on step between new acts rest)
+
 pub refused_before : (fault : HostFault) (first rest : List Act) → HasRefused fault first → HasRefused fault (first ++ rest)
 refused_before fault [] rest h = absurd h
 refused_before fault (act ∷ first) rest (inl e) = inl e

@@ -31,6 +31,9 @@ pub trait Host {
     /// Whether a file came that isn't on the disk yet. No record is taken while it is so.
     ghost files_wait: { Self → Bool };
 
+    /// What each call of this host keeps, whatever it answers: a relation of a state to each later one.
+    ghost keeps: { Self → Self → Type 0 };
+
     /// Keeps what was done, so that a crash leaves it there.
     fn keep(&mut self) -> Result<(), HostFault>
         ensures kept { OnOk result (waits self.new ≡ false) }
@@ -97,4 +100,13 @@ pub trait Host {
     /// Takes the digest of what the other side knows, as it has nothing open any more.
     fn take_done(&mut self, knows: &[u8]) -> Result<(), HostFault>
         ensures step { steps self.old (Takes (record { kind = kind.Done; bytes = knows.now }) result) self.new };
+
+    /// A state keeps what it has.
+    ghost keeps_still: { (host : Self) → keeps host host };
+
+    /// What is kept from one state to another, and from that to a third, is kept from the first to the third.
+    ghost keeps_on: { (old between new : Self) → keeps old between → keeps between new → keeps old new };
+
+    /// Each call keeps it.
+    ghost keeps_step: { (old : Self) (act : Act) (new : Self) → steps old act new → keeps old new };
 }

@@ -65,7 +65,7 @@ fn hear<R: Read + Drop, W: Write + Drop>(
 ///
 /// What was sent and what was received is a whole talk where the answer is `Ok`: the other side, which sent and received the
 /// same, has come to the same end. Each message that was sent is what the host answered in its turn, each that came was handed
-/// to it, and all that it did is kept.
+/// to it, and all that it did is kept. Whatever each call of the host keeps (`Host::keeps`), the talk keeps, however it ends.
 ///
 /// A talk that breaks off is a beginning of a whole one: each message was sent in its place, the last maybe in part, and what
 /// was received until then was in its place too. A fault of the host is told to the other side as soon as this one may speak;
@@ -83,6 +83,7 @@ pub fn run_talk<R: Read + Drop, W: Write + Drop, H: Host>(
     ensures played { OnOk result (TalkedFor H.steps role host.old host.new (W.contents line.old.output) (W.contents line.new.output)
         (ahead line.old.reader (R.remaining line.old.input)) (ahead line.new.reader (R.remaining line.new.input))) }
     ensures kept { OnOk result (H.waits host.new ≡ false) }
+    ensures keeps { H.keeps host.old host.new }
     ensures broke_off { OnErr result (BrokeOff role (W.contents line.old.output) (W.contents line.new.output)
         (ahead line.old.reader (R.remaining line.old.input))) }
     ensures cause { IfErr result (λ fault. Ended H.steps fault role host.old host.new (W.contents line.old.output) (W.contents line.new.output)

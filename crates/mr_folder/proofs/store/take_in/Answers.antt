@@ -1,37 +1,44 @@
-use Rattle.std.proofs.Common.{inl, sym, subst}
-use Rattle.mr_folder.proofs.Names.{LeavesAfter, OnlyStored, SameOr, sha256, stored_path}
-use Rattle.mr_folder.proofs.Moments.{sound_on}
-use Rattle.mr_folder.proofs.StoreSteps.{draft_place, stored_draft, stored_on}
-use Rattle.mr_folder.proofs.TreeLemmas.{draft_apart}
+use Rattle.std.proofs.Common.{subst, sym, ◌∙◌}
+use Rattle.std.proofs.lemmas.Bool.{false≢true}
+use Rattle.mr_folder.proofs.Names.{IsBytes, LeavesAfter, OnlyStored}
+use Rattle.mr_folder.proofs.KeepLemmas.{IsBytes-sha256, keeps_behind, stored_untouched}
+use Rattle.mr_folder.proofs.Moments.{sound_on, sound_untouched}
+use Rattle.mr_folder.proofs.StoreSteps.{stored_on}
 use Rattle.mr_folder.proofs.store.take_in.Goals as goal
 
-pub returns-in_err-place-clause-sound : goal.returns-in_err-place-clause-sound
-returns-in_err-place-clause-sound g c = λ told sound.
-    let draft = c.write_draft.ensures.sound told sound in
-    sound_on draft (c.place.ensures.sound told c.args.bytes.now (c.in_ok-write_draft.ensures.written told) (sym c.digest-digest.ensures) draft.sound)
+pub returns-in_err-is_there-clause-sound : goal.returns-in_err-is_there-clause-sound
+returns-in_err-is_there-clause-sound g c = λ told sound. sound_untouched (c.keep_mail.ensures.untouched told) sound
+
+pub returns-then-is_there-clause-sound : goal.returns-then-is_there-clause-sound
+returns-then-is_there-clause-sound g c = λ told sound. sound_untouched (c.keep_mail.ensures.untouched told) sound
+
+pub returns-in_err-write_in-clause-keeps : goal.returns-in_err-write_in-clause-keeps
+returns-in_err-write_in-clause-keeps g c = λ told.
+    keeps_behind c.digest-digest.result (subst IsBytes (sym c.digest-digest.ensures) (IsBytes-sha256 c.args.bytes.now)) (λ mail. false≢true (sym c.if-is_there.false ∙ (c.in_ok-is_there.ensures.has told).1 mail)) (c.keep_mail.ensures.untouched told) (c.write_in.ensures.only told) (c.write_in.ensures.crash told)
+
+pub returns-in_err-write_in-clause-crash : goal.returns-in_err-write_in-clause-crash
+returns-in_err-write_in-clause-crash g c = λ told.
+    subst (λ d. LeavesAfter (OnlyStored d) g.F.FileTree.may_leave g.F.FileTree.moment g.F.FileTree.left_since c.args.files.now c.write_in.new.files) c.digest-digest.ensures
+    (stored_on c.digest-digest.result (stored_untouched c.digest-digest.result (c.keep_mail.ensures.untouched told)) (c.write_in.ensures.crash told))
+
+pub returns-in_err-write_in-clause-sound : goal.returns-in_err-write_in-clause-sound
+returns-in_err-write_in-clause-sound g c = λ told sound.
+    let looked = sound_untouched (c.keep_mail.ensures.untouched told) sound in
+    sound_on looked (c.write_in.ensures.sound told looked.sound)
 
 pub returns-clause-kept : goal.returns-clause-kept
-returns-clause-kept g c = λ told sound. c.in_ok-place.ensures.kept told c.args.bytes.now (c.in_ok-write_draft.ensures.written told) (sym c.digest-digest.ensures) ((c.write_draft.ensures.sound told sound).sound)
+returns-clause-kept g c = λ told sound. c.in_ok-write_in.ensures.kept told (sound_untouched (c.keep_mail.ensures.untouched told) sound).sound
+
+pub returns-clause-keeps : goal.returns-clause-keeps
+returns-clause-keeps g c = λ told.
+    keeps_behind c.digest-digest.result (subst IsBytes (sym c.digest-digest.ensures) (IsBytes-sha256 c.args.bytes.now)) (λ mail. false≢true (sym c.if-is_there.false ∙ (c.in_ok-is_there.ensures.has told).1 mail)) (c.keep_mail.ensures.untouched told) (c.write_in.ensures.only told) (c.write_in.ensures.crash told)
+
+pub returns-clause-crash : goal.returns-clause-crash
+returns-clause-crash g c = λ told.
+    subst (λ d. LeavesAfter (OnlyStored d) g.F.FileTree.may_leave g.F.FileTree.moment g.F.FileTree.left_since c.args.files.now c.write_in.new.files) c.digest-digest.ensures
+    (stored_on c.digest-digest.result (stored_untouched c.digest-digest.result (c.keep_mail.ensures.untouched told)) (c.write_in.ensures.crash told))
 
 pub returns-clause-sound : goal.returns-clause-sound
 returns-clause-sound g c = λ told sound.
-    let draft = c.write_draft.ensures.sound told sound in
-    sound_on draft (c.place.ensures.sound told c.args.bytes.now (c.in_ok-write_draft.ensures.written told) (sym c.digest-digest.ensures) draft.sound)
-
-pub returns-in_err-write_draft-clause-place : goal.returns-in_err-write_draft-clause-place
-returns-in_err-write_draft-clause-place g c = λ told. inl (c.write_draft.ensures.only told (stored_path (sha256 c.args.bytes.now)) (λ e. draft_apart (sha256 c.args.bytes.now) (sym e)))
-
-pub returns-in_err-place-clause-place : goal.returns-in_err-place-clause-place
-returns-in_err-place-clause-place g c = λ told. subst (λ d. SameOr (stored_path d) c.args.bytes.now (g.F.FileTree.seen c.args.files.now) (g.F.FileTree.seen c.place.new.files)) c.digest-digest.ensures (draft_place c.digest-digest.result c.args.bytes.now (g.F.FileTree.seen c.args.files.now) (g.F.FileTree.seen c.write_draft.new.files) (g.F.FileTree.seen c.place.new.files) (c.write_draft.ensures.only told) (c.place.ensures.place told c.args.bytes.now (c.in_ok-write_draft.ensures.written told)))
-
-pub returns-clause-place : goal.returns-clause-place
-returns-clause-place g c = λ told. subst (λ d. SameOr (stored_path d) c.args.bytes.now (g.F.FileTree.seen c.args.files.now) (g.F.FileTree.seen c.place.new.files)) c.digest-digest.ensures (draft_place c.digest-digest.result c.args.bytes.now (g.F.FileTree.seen c.args.files.now) (g.F.FileTree.seen c.write_draft.new.files) (g.F.FileTree.seen c.place.new.files) (c.write_draft.ensures.only told) (c.place.ensures.place told c.args.bytes.now (c.in_ok-write_draft.ensures.written told)))
-
-pub returns-in_err-write_draft-clause-crash : goal.returns-in_err-write_draft-clause-crash
-returns-in_err-write_draft-clause-crash g c = λ told. stored_draft (sha256 c.args.bytes.now) (c.write_draft.ensures.crash told)
-
-pub returns-in_err-place-clause-crash : goal.returns-in_err-place-clause-crash
-returns-in_err-place-clause-crash g c = λ told. subst (λ d. LeavesAfter (OnlyStored d) g.F.FileTree.may_leave g.F.FileTree.moment g.F.FileTree.left_since c.args.files.now c.place.new.files) c.digest-digest.ensures (stored_on c.digest-digest.result (stored_draft c.digest-digest.result (c.write_draft.ensures.crash told)) (c.place.ensures.crash told))
-
-pub returns-clause-crash : goal.returns-clause-crash
-returns-clause-crash g c = λ told. subst (λ d. LeavesAfter (OnlyStored d) g.F.FileTree.may_leave g.F.FileTree.moment g.F.FileTree.left_since c.args.files.now c.place.new.files) c.digest-digest.ensures (stored_on c.digest-digest.result (stored_draft c.digest-digest.result (c.write_draft.ensures.crash told)) (c.place.ensures.crash told))
+    let looked = sound_untouched (c.keep_mail.ensures.untouched told) sound in
+    sound_on looked (c.write_in.ensures.sound told looked.sound)

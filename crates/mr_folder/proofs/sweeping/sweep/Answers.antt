@@ -1,5 +1,6 @@
 use Rattle.std.proofs.Common.{Contains, sym, subst}
 use Rattle.mr_folder.specs.Inside.{stored_path}
+use Rattle.mr_folder.proofs.KeepLemmas.{swept_keeps}
 use Rattle.mr_folder.proofs.Moments.{sound_untouched}
 use Rattle.mr_folder.proofs.SweepLemmas.{sweeps_untouched, sweeps_on, sweeps_sound, all_swept}
 use Rattle.mr_folder.proofs.sweeping.sweep.Goals as goal
@@ -27,3 +28,12 @@ returns-clause-only g c = λ told. sweeps_on c.args.held.now (sweeps_untouched c
 
 pub returns-clause-sound : goal.returns-clause-sound
 returns-clause-sound g c = λ told sound. sweeps_sound c.args.held.now (sweeps_on c.args.held.now (sweeps_untouched c.args.held.now (c.stored.ensures.untouched told)) (c.let_go_all.ensures.only told)) sound
+
+pub returns-in_err-stored-clause-held : goal.returns-in_err-stored-clause-held
+returns-in_err-stored-clause-held g c = λ told digest is on. swept_keeps c.args.held.now digest is.bytes on (sweeps_untouched c.args.held.now (c.stored.ensures.untouched told))
+
+pub returns-in_err-let_go_all-clause-held : goal.returns-in_err-let_go_all-clause-held
+returns-in_err-let_go_all-clause-held g c = λ told digest is on. swept_keeps c.args.held.now digest is.bytes on (sweeps_on c.args.held.now (sweeps_untouched c.args.held.now (c.stored.ensures.untouched told)) (c.let_go_all.ensures.only told))
+
+pub returns-clause-held : goal.returns-clause-held
+returns-clause-held g c = λ told digest is on. swept_keeps c.args.held.now digest is.bytes on (sweeps_on c.args.held.now (sweeps_untouched c.args.held.now (c.stored.ensures.untouched told)) (c.let_go_all.ensures.only told))

@@ -8,13 +8,15 @@ loop-frame-init g c = record {
   grows = grows_not (TakesRecordOf c.args.source) _ _ refl;
   all = ap (λ (fs : List Frame). (replica_of c.args.kept.now).log ++ map Receive fs) c.into_iter-frame-iterator.ensures.into_iter_gives.0;
   last = refl;
+  lacking = refl;
 }
 
 pub loop-frame-preserved : goal.loop-frame-preserved
 loop-frame-preserved g c = record {
   grows = grows_on (TakesRecordOf c.args.source) _ _ _ c.loop-frame.invariant.grows c.take_record.ensures.grows;
   all = taken_more _ _ _ _ _ c.in-Some.frame c.loop-frame.invariant.all c.in-Some.ensures.steps.0 c.in_ok-received.ensures.taken;
-  last = c.note.ensures ∙ c.loop-frame.invariant.last;
+  last = c.note.ensures.last ∙ c.loop-frame.invariant.last;
+  lacking = c.note.ensures.lacking ∙ c.loop-frame.invariant.lacking;
 }
 
 pub returns-in_err-received-clause-grows : goal.returns-in_err-received-clause-grows

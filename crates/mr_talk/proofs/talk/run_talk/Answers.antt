@@ -3,6 +3,7 @@ use Rattle.std.proofs.Common.{◌≡◌, Some, [], inr, arith, refl, sym, ap, �
 use Rattle.mr_talk.proofs.Names.{Appends-nil, Consumes-nil, Failed, Turn, other, sender_of}
 use Rattle.mr_talk.specs.Line.{ahead}
 use Rattle.mr_talk.proofs.CauseLaws.{ended_here, ended_ungiven, ended_unheard, ended_unsaid, ended_untaken, ends_whole, fails_by_fault, played_whole}
+use Rattle.mr_talk.proofs.HostLaws.{acts_keep}
 use Rattle.mr_talk.proofs.LineLaws.{holds_on_err, if_err}
 use Rattle.mr_talk.proofs.ServedLaws.{goes_heard, goes_said, served_nothing}
 use Rattle.mr_talk.proofs.TalkLaws.{is_own, is_others, broke_between, broke_partly}
@@ -126,3 +127,37 @@ pub returns-clause-cause : goal.returns-clause-cause
 returns-clause-cause g c =
     let served = c.messages.invariant.0.2 in
     (served.acts, served.leads, inr (inr (record { turn = c.messages.turn; talked = c.messages.invariant.0.0; many = c.messages.invariant.0.1 ∙ omega (arith, c.messages-test.false, c.messages.auto.counter-end) })))
+
+pub returns-in_default-clause-keeps : goal.returns-in_default-clause-keeps
+returns-in_default-clause-keeps g c =
+    g.met.H.Host.keeps_on c.args.host.now c.messages.host c.end.new.host
+    (acts_keep g.H.Host.steps g.H.Host.keeps g.met.H.Host.keeps_still g.met.H.Host.keeps_on g.met.H.Host.keeps_step c.args.host.now c.messages.host c.messages.invariant.0.2.acts c.messages.invariant.0.2.leads)
+    (acts_keep g.H.Host.steps g.H.Host.keeps g.met.H.Host.keeps_still g.met.H.Host.keeps_on g.met.H.Host.keeps_step c.messages.host c.end.new.host c.end.ensures.ended.0 c.end.ensures.ended.1)
+
+pub returns-in_err-message-clause-keeps : goal.returns-in_err-message-clause-keeps
+returns-in_err-message-clause-keeps g c =
+    g.met.H.Host.keeps_on c.args.host.now c.messages.host c.next_message.new.host
+    (acts_keep g.H.Host.steps g.H.Host.keeps g.met.H.Host.keeps_still g.met.H.Host.keeps_on g.met.H.Host.keeps_step c.args.host.now c.messages.host c.messages.invariant.0.2.acts c.messages.invariant.0.2.leads)
+    (acts_keep g.H.Host.steps g.H.Host.keeps g.met.H.Host.keeps_still g.met.H.Host.keeps_on g.met.H.Host.keeps_step c.messages.host c.next_message.new.host c.in_err-message.ensures.voiced.acts c.in_err-message.ensures.voiced.leads)
+
+pub returns-in_err-turn-clause-keeps : goal.returns-in_err-turn-clause-keeps
+returns-in_err-turn-clause-keeps g c =
+    g.met.H.Host.keeps_on c.args.host.now c.messages.host c.say.new.host
+    (acts_keep g.H.Host.steps g.H.Host.keeps g.met.H.Host.keeps_still g.met.H.Host.keeps_on g.met.H.Host.keeps_step c.args.host.now c.messages.host c.messages.invariant.0.2.acts c.messages.invariant.0.2.leads)
+    (g.met.H.Host.keeps_on c.messages.host c.next_message.new.host c.say.new.host
+    (acts_keep g.H.Host.steps g.H.Host.keeps g.met.H.Host.keeps_still g.met.H.Host.keeps_on g.met.H.Host.keeps_step c.messages.host c.next_message.new.host c.in_ok-message.ensures.voiced.acts c.in_ok-message.ensures.voiced.leads)
+    (acts_keep g.H.Host.steps g.H.Host.keeps g.met.H.Host.keeps_still g.met.H.Host.keeps_on g.met.H.Host.keeps_step c.next_message.new.host c.say.new.host c.in_err-turn.ensures.kept.0 c.in_err-turn.ensures.kept.1))
+
+pub returns-in_err-message-2-clause-keeps : goal.returns-in_err-message-2-clause-keeps
+returns-in_err-message-2-clause-keeps g c =
+    acts_keep g.H.Host.steps g.H.Host.keeps g.met.H.Host.keeps_still g.met.H.Host.keeps_on g.met.H.Host.keeps_step c.args.host.now c.messages.host c.messages.invariant.0.2.acts c.messages.invariant.0.2.leads
+
+pub returns-in_err-take-clause-keeps : goal.returns-in_err-take-clause-keeps
+returns-in_err-take-clause-keeps g c =
+    g.met.H.Host.keeps_on c.args.host.now c.messages.host c.take.new.host
+    (acts_keep g.H.Host.steps g.H.Host.keeps g.met.H.Host.keeps_still g.met.H.Host.keeps_on g.met.H.Host.keeps_step c.args.host.now c.messages.host c.messages.invariant.0.2.acts c.messages.invariant.0.2.leads)
+    (acts_keep g.H.Host.steps g.H.Host.keeps g.met.H.Host.keeps_still g.met.H.Host.keeps_on g.met.H.Host.keeps_step c.messages.host c.take.new.host c.in_err-take.ensures.taken_in.acts c.in_err-take.ensures.taken_in.leads)
+
+pub returns-clause-keeps : goal.returns-clause-keeps
+returns-clause-keeps g c =
+    acts_keep g.H.Host.steps g.H.Host.keeps g.met.H.Host.keeps_still g.met.H.Host.keeps_on g.met.H.Host.keeps_step c.args.host.now c.messages.host c.messages.invariant.0.2.acts c.messages.invariant.0.2.leads
