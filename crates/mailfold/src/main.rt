@@ -62,10 +62,10 @@ use queries::{export_mail, list_mails, log_events, log_history, show_version, ve
 use renew::renew_folder;
 use scan::scan_folder;
 use status::print_status;
-use streams::hold_places;
 use std::env;
 use std::io::IsTerminal;
 use std::process::ExitCode;
+use streams::hold_places;
 use talk::sync_folder;
 use told::tell_fault;
 use unread::answer_unread;
