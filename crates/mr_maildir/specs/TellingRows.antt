@@ -38,7 +38,7 @@ pub told_of_two : told_marks own (mark other inbox 1 0 ∷ mark own inbox 2 0 �
 told_of_two = refl
 
 -- a deletion that tells no marks says nothing, so that it raises nothing; its message has no label, and the flag
-pub deletion_before : uncounted own [] 17 ≡ mark own inbox 1 0 ∷ []
+pub deletion_before : uncounted own [] 16 ≡ []
 deletion_before = refl
 
 pub shows_deletion : is_shown_by [] [] 16 ≡ true
