@@ -47,6 +47,9 @@ extern "C" {
  * mr_abi() has the same upper half and a lower half that is not below the header's. */
 #define MR_ABI UINT32_C(0x00010004)
 
+/* The release that this header is of. */
+#define MR_VERSION "0.1.0"
+
 /* What a call answers. Below 0x100 stand the codes of this interface; the others are a family, by its upper byte, and the number
  * that docs/API.md has in that family's table. */
 #define MR_CODES(CODE) \
@@ -290,10 +293,13 @@ void mr_close(mr_device *device);
  * open or close answers MR_FAILED: close the device, read the file, open it again. An event may answer MR_TOO_LARGE, of more than
  * 8,388,608 bytes.
  *
- * birth: 16 random bytes, drawn for this file alone. mark: 32 bytes that tell where the file is, as of its device and inode, so that a
- * copy, and a backup that was restored as another file, which would give versions again, are refused; or zeros, and then they aren't. */
+ * birth: 16 random bytes, drawn for this file alone. mark: 32 bytes that tell where the file is, as of the machine's id and the file's
+ * inode, so that a copy, and a backup that was restored as another file, which would give versions again, are refused. To open a file
+ * takes the mark that it was begun with, and nothing else does: zeros too are a mark, which a copy has as well, and they open no file that
+ * was begun with another. So a file that is moved to another machine or disk is opened by the mark of its old place alone. */
 
-/* Begins a device in a file that has no byte. Its acts are to be done first. id, filter and event_limit are those of mr_open.
+/* Begins a device in a file that has no byte, which the call can't see: its acts, which are to be done first, erase what is in the file. So
+ * lock the file and look at its length before, and answer MR_OPEN_NOT_EMPTY yourself. id, filter and event_limit are those of mr_open.
  * MR_IN_USE, MR_VERSION_NO_SUCH_AUTHOR, MR_NOT_TEXT, MR_FILTER_.., MR_BAD_LENGTH, MR_REPLAY_BAD_LIMIT, MR_OPEN_BAD_ENTRY of a filter
  * whose text is too long, MR_JOURNAL_FAILED. */
 int32_t mr_kept_begin(mr_device *device, uint16_t id, const uint8_t *filter, size_t filter_len, uint32_t event_limit,

@@ -12,6 +12,7 @@
 #include <stdio.h>
 #include <stdlib.h>
 #include <string.h>
+#include <sys/file.h>
 #include <sys/random.h>
 #include <sys/stat.h>
 #include <sys/wait.h>
@@ -26,7 +27,7 @@ typedef struct kept {
   const char *path;
   int fd;
   mr_device device;
-  size_t announced;
+  uint64_t announced;
 } kept;
 
 static uint8_t bytes[ROOM];
@@ -103,9 +104,10 @@ static void commit(kept *k) {
 static void announce(kept *k) {
   mr_count count;
   MUST(mr_counts(&k->device, &count));
-  MUST(mr_note(&k->device, (const uint8_t *)&count.changes, sizeof count.changes));
+  uint64_t changes = count.changes;
+  MUST(mr_note(&k->device, (const uint8_t *)&changes, sizeof changes));
   commit(k);
-  for (; k->announced < count.changes; k->announced++) tell(k->id + 2);
+  for (; k->announced < changes; k->announced++) tell(k->id + 2);
 }
 
 /* How many were announced, as the last note says. */
@@ -116,13 +118,17 @@ static void find_announced(kept *k) {
   if (notes > 0) MUST(mr_note_at(&k->device, notes - 1, (uint8_t *)&k->announced, sizeof k->announced, &len));
 }
 
-/* The place of a file: a copy of it is at another one. */
+/* The place of a file, by the machine's id and the file's inode: a copy of it is at another one. */
 static void mark_of(int fd, uint8_t mark[MR_MARK]) {
   struct stat about;
-  if (fstat(fd, &about)) die("fstat");
+  FILE *id = fopen("/etc/machine-id", "r");
   memset(mark, 0, MR_MARK);
-  memcpy(mark, &about.st_dev, sizeof about.st_dev);
-  memcpy(mark + 16, &about.st_ino, sizeof about.st_ino);
+  for (int i = 0; i < 16; i++)
+    if (!id || fscanf(id, "%2hhx", &mark[i]) != 1) die("/etc/machine-id");
+  fclose(id);
+  if (fstat(fd, &about)) die("fstat");
+  uint64_t inode = about.st_ino;
+  memcpy(mark + 16, &inode, sizeof inode);
 }
 
 /* The bytes of the file, synced before they are read. */
@@ -136,13 +142,23 @@ static uint8_t *read_whole(int fd, size_t *file_len) {
   return file;
 }
 
+/* So that the name of a file that was begun outlives a crash. */
+static void sync_folder(const char *path) {
+  char folder[64];
+  snprintf(folder, sizeof folder, "%s", path);
+  *strrchr(folder, '/') = 0;
+  int fd = open(folder, O_RDONLY | O_DIRECTORY | O_CLOEXEC);
+  if (fd < 0 || fsync(fd)) die(folder);
+  close(fd);
+}
+
 /* Opens the device of the file, or begins it there. */
 static void open_kept(kept *k) {
   uint8_t mark[MR_MARK], birth[MR_BIRTH];
   size_t file_len;
   k->device = (mr_device){0};
   k->fd = open(k->path, O_RDWR | O_CREAT | O_CLOEXEC, 0600);
-  if (k->fd < 0) die(k->path);
+  if (k->fd < 0 || flock(k->fd, LOCK_EX | LOCK_NB)) die(k->path);
   mark_of(k->fd, mark);
   uint8_t *file = read_whole(k->fd, &file_len);
   int32_t code = mr_kept_open(&k->device, file, file_len, mark, MR_MARK, birth, 0);
@@ -153,6 +169,7 @@ static void open_kept(kept *k) {
   }
   must(code, k->path);
   settle(k);
+  sync_folder(k->path);
   find_announced(k);
 }
 
@@ -223,7 +240,7 @@ static void story(kept *phone, kept *office) {
 static unsigned check(kept *k, unsigned handed_out, unsigned announced) {
   mr_told told;
   open_kept(k);
-  if (k->announced < announced) exit((printf("%s has noted %zu, and %u were announced\n", k->path, k->announced, announced), 1));
+  if (k->announced < announced) exit((printf("%s has noted %u, and %u were announced\n", k->path, (unsigned)k->announced, announced), 1));
   create(k, "one more");
   MUST(mr_commit(&k->device));
   if (mr_told_at(&k->device, 0, &told) != MR_UNSETTLED) exit((puts("handed out before its acts were done"), 1));

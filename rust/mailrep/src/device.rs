@@ -3,6 +3,8 @@
 use crate::error::{Error, Result, answer};
 use crate::sys;
 use crate::values::{Change, Counts, Draft, Held, Message, Received, Version};
+use std::cell::Cell;
+use std::fmt;
 
 /// How many bytes, or versions, a buffer has room for at first.
 const ROOM: usize = 512;
@@ -12,11 +14,16 @@ const MAX_OPEN: usize = 8;
 
 /// A device: one end of a mailbox that is kept in step. It may go to another thread, and two threads can't share it.
 ///
-/// Each call that changes it is an event, which happens as a whole or not at all: at an `Err` it is as it was. The lists of errors mostly
-/// leave out `OutOfMemory`.
-#[derive(Debug)]
+/// Readers take `&self`, so that one is asked while another one's iterator is there. Each call that changes the device is an event, which
+/// happens as a whole or not at all: at an `Err` it is as it was. The lists of errors mostly leave out `OutOfMemory`.
 pub struct Device {
-    pub(crate) device: sys::Device,
+    handle: Cell<sys::Device>,
+}
+
+impl fmt::Debug for Device {
+    fn fmt(&self, f: &mut fmt::Formatter<'_>) -> fmt::Result {
+        f.debug_struct("Device").finish_non_exhaustive()
+    }
 }
 
 // Safety: the library proves that what an open device owns may go to another thread. It has no `Sync`, since its readers take the
@@ -25,7 +32,7 @@ unsafe impl Send for Device {}
 
 impl Drop for Device {
     fn drop(&mut self) {
-        sys::mr_close(&mut self.device);
+        sys::mr_close(self.handle.get_mut());
     }
 }
 
@@ -43,8 +50,21 @@ impl Device {
             "libmailrep has interface 0x{abi:x}"
         );
         Device {
-            device: sys::Device::CLOSED,
+            handle: Cell::new(sys::Device::CLOSED),
         }
+    }
+
+    // The handle, for what changes the device.
+    pub(crate) fn handle(&mut self) -> &mut sys::Device {
+        self.handle.get_mut()
+    }
+
+    // Has a reader read. The handle is taken out meanwhile: it may be moved, and a call of the library doesn't come back here.
+    pub(crate) fn read<T>(&self, reader: impl FnOnce(&mut sys::Device) -> T) -> T {
+        let mut handle = self.handle.replace(sys::Device::CLOSED);
+        let read = reader(&mut handle);
+        self.handle.set(handle);
+        read
     }
 
     /// A device to which nothing has happened.
@@ -77,7 +97,7 @@ impl Device {
         // Safety: the pointers are those of slices of these lengths, and the device is closed.
         answer(unsafe {
             sys::mr_replay(
-                &mut opened.device,
+                opened.handle(),
                 id,
                 filter.as_ptr(),
                 filter.len(),
@@ -107,7 +127,7 @@ impl Device {
         // Safety: the pointers are those of slices of these lengths.
         answer(unsafe {
             sys::mr_create(
-                &mut self.device,
+                self.handle(),
                 from.as_ptr(),
                 from.len(),
                 subject.as_ptr(),
@@ -142,7 +162,7 @@ impl Device {
         // Safety: the pointers are those of slices of these lengths.
         answer(unsafe {
             sys::mr_edit(
-                &mut self.device,
+                self.handle(),
                 bases.as_ptr(),
                 bases.len(),
                 from.as_ptr(),
@@ -172,7 +192,7 @@ impl Device {
     /// where the heads say the same, or there is one or none; then `Refused`.
     pub fn merge(&mut self, item: Version) -> Result<Version> {
         let mut version = Version::default();
-        answer(sys::mr_merge(&mut self.device, item, &mut version))?;
+        answer(sys::mr_merge(self.handle(), item, &mut version))?;
         Ok(version)
     }
 
@@ -182,7 +202,7 @@ impl Device {
     ///
     /// `Refused`, as while it keeps messages for others.
     pub fn retire(&mut self) -> Result<()> {
-        answer(sys::mr_retire(&mut self.device))
+        answer(sys::mr_retire(self.handle()))
     }
 
     /// Asks for what the device lacks: the number of a session that waits for it, and the request's frame.
@@ -198,7 +218,7 @@ impl Device {
     // The same, without the frame.
     pub(crate) fn ask(&mut self) -> Result<u64> {
         let mut session = 0;
-        answer(sys::mr_pull(&mut self.device, &mut session))?;
+        answer(sys::mr_pull(self.handle(), &mut session))?;
         Ok(session)
     }
 
@@ -210,9 +230,7 @@ impl Device {
     pub fn answer(&mut self, frame: &[u8]) -> Result<u64> {
         let mut stream = 0;
         // Safety: the pointer is that of a slice of this length.
-        answer(unsafe {
-            sys::mr_answer(&mut self.device, frame.as_ptr(), frame.len(), &mut stream)
-        })?;
+        answer(unsafe { sys::mr_answer(self.handle(), frame.as_ptr(), frame.len(), &mut stream) })?;
         Ok(stream)
     }
 
@@ -222,7 +240,7 @@ impl Device {
     ///
     /// `Refused`, where no such stream is open.
     pub fn next(&mut self, stream: u64) -> Result<Vec<u8>> {
-        answer(sys::mr_next(&mut self.device, stream))?;
+        answer(sys::mr_next(self.handle(), stream))?;
         self.frame()
     }
 
@@ -235,7 +253,7 @@ impl Device {
         let mut outcome = 0;
         // Safety: the pointer is that of a slice of this length.
         answer(unsafe {
-            sys::mr_receive(&mut self.device, frame.as_ptr(), frame.len(), &mut outcome)
+            sys::mr_receive(self.handle(), frame.as_ptr(), frame.len(), &mut outcome)
         })?;
         Ok(match outcome {
             0 => Received::Took,
@@ -250,7 +268,7 @@ impl Device {
     ///
     /// `Refused`, where no such session is open.
     pub fn cut_in(&mut self, session: u64) -> Result<()> {
-        answer(sys::mr_cut_in(&mut self.device, session))
+        answer(sys::mr_cut_in(self.handle(), session))
     }
 
     /// Gives up a stream.
@@ -259,7 +277,7 @@ impl Device {
     ///
     /// `Refused`, where no such stream is open.
     pub fn cut_out(&mut self, stream: u64) -> Result<()> {
-        answer(sys::mr_cut_out(&mut self.device, stream))
+        answer(sys::mr_cut_out(self.handle(), stream))
     }
 
     /// The frame of a receipt for a head.
@@ -268,7 +286,7 @@ impl Device {
     ///
     /// `Version`, then `Refused`.
     pub fn vouch(&mut self, version: Version) -> Result<Vec<u8>> {
-        answer(sys::mr_vouch(&mut self.device, version))?;
+        answer(sys::mr_vouch(self.handle(), version))?;
         self.frame()
     }
 
@@ -279,24 +297,32 @@ impl Device {
     /// `Wire`, `BytesBehind`, `OtherFrame`, then `Refused`.
     pub fn release(&mut self, frame: &[u8]) -> Result<()> {
         // Safety: the pointer is that of a slice of this length.
-        answer(unsafe { sys::mr_release(&mut self.device, frame.as_ptr(), frame.len()) })
+        answer(unsafe { sys::mr_release(self.handle(), frame.as_ptr(), frame.len()) })
     }
 
-    // What a call writes to a buffer, which grows to the length that the call tells.
+    // What a reader writes to a buffer, which grows to the length that it tells.
     pub(crate) fn filled<T: Copy + Default>(
-        &mut self,
-        call: impl Fn(&mut sys::Device, *mut T, usize, &mut usize) -> i32,
+        &self,
+        reader: impl Fn(&mut sys::Device, *mut T, usize, &mut usize) -> i32,
     ) -> Result<Vec<T>> {
         let mut items = vec![T::default(); ROOM];
         let mut len = 0;
-        let mut code = call(&mut self.device, items.as_mut_ptr(), items.len(), &mut len);
+        let mut code = self.read(|it| reader(it, items.as_mut_ptr(), items.len(), &mut len));
         if code == sys::TOO_SMALL {
             items.resize(len, T::default());
-            code = call(&mut self.device, items.as_mut_ptr(), items.len(), &mut len);
+            code = self.read(|it| reader(it, items.as_mut_ptr(), items.len(), &mut len));
         }
         answer(code)?;
         items.truncate(len);
         Ok(items)
+    }
+
+    // What a reader that is never refused writes, of a device that is open and of a place where something is.
+    fn there<T: Default>(&self, reader: impl FnOnce(&mut sys::Device, &mut T) -> i32) -> T {
+        let mut value = T::default();
+        let code = self.read(|it| reader(it, &mut value));
+        debug_assert_eq!(code, 0);
+        value
     }
 
     /// The frame that the last event gave that was not refused, and nothing where it gave none. `pull`, `next` and `vouch` give it
@@ -305,33 +331,26 @@ impl Device {
     /// # Errors
     ///
     /// None of an open device.
-    pub fn frame(&mut self) -> Result<Vec<u8>> {
+    pub fn frame(&self) -> Result<Vec<u8>> {
         // Safety: `filled` hands over a buffer of its own, and the room that it has.
         self.filled(|device, to, room, len| unsafe { sys::mr_frame(device, to, room, len) })
     }
 
     /// How much there is.
-    pub fn counts(&mut self) -> Counts {
-        let mut counts = Counts::default();
-        let code = sys::mr_counts(&mut self.device, &mut counts);
-        debug_assert_eq!(code, 0);
-        counts
+    pub fn counts(&self) -> Counts {
+        self.there(|device, counts| sys::mr_counts(device, counts))
     }
 
     /// The messages that the filter selects, in version order.
-    pub fn heads(&mut self) -> impl Iterator<Item = Held> + '_ {
-        (0..self.counts().heads).map_while(|place| {
-            let mut head = Held::default();
-            (sys::mr_head(&mut self.device, place, &mut head) == 0).then_some(head)
-        })
+    pub fn heads(&self) -> impl ExactSizeIterator<Item = Held> + DoubleEndedIterator {
+        (0..self.counts().heads)
+            .map(|place| self.there(|device, head| sys::mr_head(device, place, head)))
     }
 
     /// The messages that wait for another device to have them, in version order.
-    pub fn push_outs(&mut self) -> impl Iterator<Item = Held> + '_ {
-        (0..self.counts().push_outs).map_while(|place| {
-            let mut push_out = Held::default();
-            (sys::mr_push_out(&mut self.device, place, &mut push_out) == 0).then_some(push_out)
-        })
+    pub fn push_outs(&self) -> impl ExactSizeIterator<Item = Held> + DoubleEndedIterator {
+        (0..self.counts().push_outs)
+            .map(|place| self.there(|device, held| sys::mr_push_out(device, place, held)))
     }
 
     /// The items that have two or more heads, in rising order: they are in conflict until an edit of all their heads, as
@@ -340,7 +359,7 @@ impl Device {
     /// # Errors
     ///
     /// `OutOfMemory` alone.
-    pub fn conflicts(&mut self) -> Result<Vec<Version>> {
+    pub fn conflicts(&self) -> Result<Vec<Version>> {
         // Safety: `filled` hands over a buffer of its own, and the room that it has.
         self.filled(|device, to, room, len| unsafe { sys::mr_conflicts(device, to, room, len) })
     }
@@ -350,7 +369,7 @@ impl Device {
     /// # Errors
     ///
     /// `Version`.
-    pub fn heads_of(&mut self, item: Version) -> Result<Vec<Version>> {
+    pub fn heads_of(&self, item: Version) -> Result<Vec<Version>> {
         // Safety: `filled` hands over a buffer of its own, and the room that it has.
         self.filled(|device, to, room, len| unsafe {
             sys::mr_heads_of(device, item, to, room, len)
@@ -358,15 +377,19 @@ impl Device {
     }
 
     /// The changes of the heads, in order of time, behind the first so many. Keep how many you have seen.
-    pub fn changes_since(&mut self, seen: usize) -> impl Iterator<Item = Change> + '_ {
-        (seen..self.counts().changes).map_while(|place| {
-            let mut change = Change::default();
-            (sys::mr_change(&mut self.device, place, &mut change) == 0).then_some(change)
-        })
+    pub fn changes_since(
+        &self,
+        seen: usize,
+    ) -> impl ExactSizeIterator<Item = Change> + DoubleEndedIterator {
+        (seen..self.counts().changes)
+            .map(|place| self.there(|device, change| sys::mr_change(device, place, change)))
     }
 
     /// The events of the log behind the first so many, each as the bytes to be kept for [`replay`](Device::replay).
-    pub fn log_since(&mut self, kept: usize) -> impl Iterator<Item = Result<Vec<u8>>> + '_ {
+    pub fn log_since(
+        &self,
+        kept: usize,
+    ) -> impl ExactSizeIterator<Item = Result<Vec<u8>>> + DoubleEndedIterator {
         (kept..self.counts().events).map(|place| {
             // Safety: `filled` hands over a buffer of its own, and the room that it has.
             self.filled(|device, to, room, len| unsafe {
@@ -376,18 +399,18 @@ impl Device {
     }
 
     // A part of a message, as text.
-    fn text(&mut self, version: Version, part: u32) -> Result<String> {
+    fn text(&self, version: Version, part: u32) -> Result<String> {
         text_of(self.part(version, part)?)
     }
 
-    fn part(&mut self, version: Version, part: u32) -> Result<Vec<u8>> {
+    fn part(&self, version: Version, part: u32) -> Result<Vec<u8>> {
         // Safety: `filled` hands over a buffer of its own, and the room that it has.
         self.filled(|device, to, room, len| unsafe {
             sys::mr_part(device, version, part, to, room, len)
         })
     }
 
-    fn label(&mut self, version: Version, place: usize) -> Result<String> {
+    fn label(&self, version: Version, place: usize) -> Result<String> {
         // Safety: `filled` hands over a buffer of its own, and the room that it has.
         let bytes = self.filled(|device, to, room, len| unsafe {
             sys::mr_label(device, version, place, to, room, len)
@@ -400,12 +423,12 @@ impl Device {
     /// # Errors
     ///
     /// `Version` where there is no such version, then `NotThere`.
-    pub fn message(&mut self, version: Version) -> Result<Message> {
+    pub fn message(&self, version: Version) -> Result<Message> {
         let mut card = sys::Placed::default();
-        answer(sys::mr_card(&mut self.device, version, &mut card))?;
+        answer(self.read(|device| sys::mr_card(device, version, &mut card)))?;
         let labels = (0..card.labels).map(|place| self.label(version, place));
         Ok(Message {
-            labels: labels.collect::<Result<_>>()?,
+            labels: labels.collect::<Result<Vec<_>>>()?.join(","),
             from: self.text(version, 0)?,
             subject: self.text(version, 1)?,
             body: self.part(version, 2)?,
@@ -420,14 +443,9 @@ impl Device {
     /// # Errors
     ///
     /// `Version`.
-    pub fn knows(&mut self, item: Version, version: Version) -> Result<bool> {
+    pub fn knows(&self, item: Version, version: Version) -> Result<bool> {
         let mut is_known = 0;
-        answer(sys::mr_knows(
-            &mut self.device,
-            item,
-            version,
-            &mut is_known,
-        ))?;
+        answer(self.read(|device| sys::mr_knows(device, item, version, &mut is_known)))?;
         Ok(is_known == 1)
     }
 
@@ -438,9 +456,9 @@ impl Device {
     /// # Errors
     ///
     /// `Version`; `Refused`, where what is known has too many holes.
-    pub fn highest(&mut self, author: u32) -> Result<Option<u32>> {
+    pub fn highest(&self, author: u32) -> Result<Option<u32>> {
         let mut counter = 0;
-        match answer(sys::mr_highest(&mut self.device, author, &mut counter)) {
+        match answer(self.read(|device| sys::mr_highest(device, author, &mut counter))) {
             Ok(()) => Ok(Some(counter)),
             Err(Error::NotThere) => Ok(None),
             Err(error) => Err(error),
@@ -448,29 +466,21 @@ impl Device {
     }
 
     /// Whether it has retired.
-    pub fn is_retired(&mut self) -> bool {
-        let mut is_retired = 0;
-        let code = sys::mr_is_retired(&mut self.device, &mut is_retired);
-        debug_assert_eq!(code, 0);
-        is_retired == 1
+    pub fn is_retired(&self) -> bool {
+        self.there(|device, is_retired| sys::mr_is_retired(device, is_retired)) == 1
     }
 
-    // The numbers that a call writes.
+    // The numbers that a reader writes.
     fn numbers(
-        &mut self,
-        call: unsafe extern "C" fn(&mut sys::Device, *mut u64, usize, &mut usize) -> i32,
+        &self,
+        reader: unsafe extern "C" fn(&mut sys::Device, *mut u64, usize, &mut usize) -> i32,
     ) -> Result<Vec<u64>> {
         let mut numbers = [0; MAX_OPEN];
         let mut len = 0;
         // Safety: the buffer has this length.
-        answer(unsafe {
-            call(
-                &mut self.device,
-                numbers.as_mut_ptr(),
-                numbers.len(),
-                &mut len,
-            )
-        })?;
+        answer(self.read(|device| unsafe {
+            reader(device, numbers.as_mut_ptr(), numbers.len(), &mut len)
+        }))?;
         Ok(numbers[..len].to_vec())
     }
 
@@ -479,7 +489,7 @@ impl Device {
     /// # Errors
     ///
     /// `OutOfMemory` alone.
-    pub fn sessions(&mut self) -> Result<Vec<u64>> {
+    pub fn sessions(&self) -> Result<Vec<u64>> {
         self.numbers(sys::mr_sessions)
     }
 
@@ -488,7 +498,7 @@ impl Device {
     /// # Errors
     ///
     /// `OutOfMemory` alone.
-    pub fn streams(&mut self) -> Result<Vec<u64>> {
+    pub fn streams(&self) -> Result<Vec<u64>> {
         self.numbers(sys::mr_streams)
     }
 }

@@ -83,6 +83,8 @@ macro_rules! families {
                 })
             }
         }
+
+        impl error::Error for $family {}
     )*};
 }
 
@@ -225,6 +227,33 @@ impl Error {
         };
         known.unwrap_or(Error::Unknown(code))
     }
+
+    /// The number that `mailrep.h` has for it, which is never 0: the family by `code() >> 8`, as `docs/API.md` numbers them.
+    pub fn code(self) -> i32 {
+        let (family, number) = match self {
+            Error::OutOfMemory => (0, 1),
+            Error::NotThere => (0, 6),
+            Error::BytesBehind => (0, 7),
+            Error::OtherFrame => (0, 8),
+            Error::Unsettled => (0, 9),
+            Error::Failed => (0, 10),
+            Error::TooLarge => (0, 12),
+            Error::NoConflict => (0, 14),
+            Error::Version(fault) => (1, fault.number()),
+            Error::Message(fault) => (2, fault.number()),
+            Error::Filter(fault) => (3, fault.number()),
+            Error::Wire(fault) => (4, fault.number()),
+            Error::Event(fault) => (5, fault.number()),
+            Error::Replay(fault) => (6, fault.number()),
+            Error::Refused(refusal) => (7, refusal.number()),
+            Error::Open(fault) => (8, fault.number()),
+            Error::Journal(fault) => (9, fault.number()),
+            Error::Merge(fault) => (10, fault.number()),
+            Error::Peer(fault) => (11, fault.number()),
+            Error::Unknown(code) => return code,
+        };
+        family << 8 | i32::from(number)
+    }
 }
 
 impl fmt::Display for Error {
@@ -263,5 +292,20 @@ pub(crate) fn answer(code: i32) -> Result<()> {
     match code {
         0 => Ok(()),
         _ => Err(Error::of(code)),
+    }
+}
+
+#[cfg(test)]
+mod tests {
+    use super::*;
+
+    #[test]
+    fn each_code_is_that_of_its_error() {
+        assert_eq!(Error::Refused(Refusal::NoSession).code(), 0x70c);
+        let known = (1..0x1000).filter(|code| {
+            assert_eq!(Error::of(*code).code(), *code);
+            !matches!(Error::of(*code), Error::Unknown(_))
+        });
+        assert_eq!(known.count(), 8 + 62);
     }
 }

@@ -1,18 +1,27 @@
 //! A device with a file of its own.
 
 use crate::device::Device;
-use crate::error::{Error, Result, answer};
+use crate::error::{Error, OpenFault, Result, answer};
 use crate::sys;
 use crate::values::{Born, Change, Counts, Draft, Held, Message, Received, Version};
 use std::fs::File;
 use std::io::{self, Read, Seek, SeekFrom};
-use std::{error, fmt};
+use std::os::fd::AsRawFd;
+use std::os::unix::fs::MetadataExt;
+use std::{error, fmt, fs};
 
 /// The file of a kept device, which nothing else touches.
 ///
-/// Lock it, so that of a file one device is open at a time. What [`Storage::write_at`] and [`Storage::cut`] did may be undone or torn by a
-/// crash until [`Storage::sync`] has returned, and must not be after.
+/// What [`Storage::write_at`] and [`Storage::cut`] did may be undone or torn by a crash until [`Storage::sync`] has returned, and must not be
+/// after.
 pub trait Storage {
+    /// Takes the file for one device alone, for as long as the storage is there. A [`File`] is locked by `flock`.
+    ///
+    /// # Errors
+    ///
+    /// `WouldBlock` where another has it; and as the system says.
+    fn lock(&mut self) -> io::Result<()>;
+
     /// All bytes of the file, synced before they are read.
     ///
     /// # Errors
@@ -42,7 +51,23 @@ pub trait Storage {
     fn sync(&mut self) -> io::Result<()>;
 }
 
+unsafe extern "C" {
+    // As on each system that Rust's own `File::try_lock` calls it on, which is later than this crate's oldest Rust.
+    safe fn flock(fd: i32, operation: i32) -> i32;
+}
+
+// A lock for one alone; and none rather than to wait.
+const LOCK_EX: i32 = 2;
+const LOCK_NB: i32 = 4;
+
 impl Storage for File {
+    fn lock(&mut self) -> io::Result<()> {
+        match flock(self.as_raw_fd(), LOCK_EX | LOCK_NB) {
+            0 => Ok(()),
+            _ => Err(io::Error::last_os_error()),
+        }
+    }
+
     fn read_all(&mut self) -> io::Result<Vec<u8>> {
         self.sync_data()?;
         let mut bytes = Vec::new();
@@ -65,10 +90,32 @@ impl Storage for File {
     }
 }
 
+/// Where a file is, as the mark of a kept device: the machine's id, as `/etc/machine-id` has it, and the file's inode. A copy has another
+/// inode, and so has a backup that was restored as another file; so has, mostly, a file that was moved to another disk.
+///
+/// # Errors
+///
+/// As the system says; `InvalidData` where the machine's id is none.
+pub fn mark_of(file: &File) -> io::Result<[u8; 32]> {
+    let machine = fs::read_to_string("/etc/machine-id")?;
+    let machine = u128::from_str_radix(machine.trim(), 16).map_err(|_| {
+        io::Error::new(
+            io::ErrorKind::InvalidData,
+            "/etc/machine-id has no machine's id",
+        )
+    })?;
+    let mut mark = [0; 32];
+    mark[..16].copy_from_slice(&machine.to_be_bytes());
+    mark[16..24].copy_from_slice(&file.metadata()?.ino().to_be_bytes());
+    Ok(mark)
+}
+
 /// Why a kept device isn't opened, or keeps nothing.
 #[derive(Debug)]
 #[non_exhaustive]
 pub enum KeptError {
+    /// Another device has the file open.
+    InUse,
     /// The device says so.
     Device(Error),
     /// The file does. Of an open device the next call answers `Failed`: open the file again.
@@ -90,6 +137,7 @@ impl From<io::Error> for KeptError {
 impl fmt::Display for KeptError {
     fn fmt(&self, f: &mut fmt::Formatter<'_>) -> fmt::Result {
         match self {
+            KeptError::InUse => f.write_str("another device has the file open"),
             KeptError::Device(error) => error.fmt(f),
             KeptError::File(error) => error.fmt(f),
         }
@@ -99,6 +147,7 @@ impl fmt::Display for KeptError {
 impl error::Error for KeptError {
     fn source(&self) -> Option<&(dyn error::Error + 'static)> {
         match self {
+            KeptError::InUse => None,
             KeptError::Device(error) => Some(error),
             KeptError::File(error) => Some(error),
         }
@@ -135,33 +184,46 @@ const ISSUED: u32 = 0;
 const ASKED: u32 = 1;
 const GAVE: u32 = 2;
 
+// Takes the file for one device, and reads it.
+fn taken<F: Storage>(file: &mut F) -> std::result::Result<Vec<u8>, KeptError> {
+    match file.lock() {
+        Err(error) if error.kind() == io::ErrorKind::WouldBlock => return Err(KeptError::InUse),
+        locked => locked?,
+    }
+    Ok(file.read_all()?)
+}
+
 impl<F: Storage> KeptDevice<F> {
     /// Begins a device in a file that has no byte.
     ///
     /// `id`, `filter` and `event_limit` are those of [`Device::open`]. `birth`: random bytes, drawn for this file alone. `mark`: bytes that
-    /// tell where the file is, as of its device and inode, so that a copy, and a backup that was restored as another file, which would
-    /// give versions again, are refused; or zeros, and then they aren't.
+    /// tell where the file is, as [`mark_of`] does, so that a copy, and a backup that was restored as another file, which would give versions
+    /// again, are refused; or zeros, and then a copy with that mark isn't told from the file.
     ///
     /// # Errors
     ///
-    /// `Version`, `Filter`, `Replay` for the limit, and what the file says.
+    /// `InUse` where another device has the file open; `Open(NotEmpty)` where it has a byte, and it has all of them still; `Version`, `Filter`,
+    /// `Replay` for the limit; and what the file says.
     ///
     /// # Panics
     ///
     /// Where the library is of another interface than this crate.
     pub fn begin(
-        file: F,
+        mut file: F,
         id: u16,
         filter: &str,
         event_limit: u32,
         birth: &[u8; 16],
         mark: &[u8; 32],
     ) -> std::result::Result<KeptDevice<F>, KeptError> {
+        if !taken(&mut file)?.is_empty() {
+            return Err(Error::Open(OpenFault::NotEmpty).into());
+        }
         let mut device = Device::closed();
         // Safety: the pointers are those of slices of these lengths, and the device is closed.
         answer(unsafe {
             sys::mr_kept_begin(
-                &mut device.device,
+                device.handle(),
                 id,
                 filter.as_ptr(),
                 filter.len(),
@@ -181,8 +243,9 @@ impl<F: Storage> KeptDevice<F> {
     ///
     /// # Errors
     ///
-    /// `Open(NoReplica)` where the file is empty or a begin was cut off: empty it and begin. `Journal`, `Open`, `Filter` and `Replay` where
-    /// it is none of a device, `Open` also of another place or, where a birth is given, of another birth; and what the file says.
+    /// `InUse` where another device has the file open. `Open(NoReplica)` where it is empty or a begin was cut off: empty it and begin.
+    /// `Journal`, `Open`, `Filter` and `Replay` where it is none of a device, `Open` also of another place or, where a birth is given, of
+    /// another birth; and what the file says.
     ///
     /// # Panics
     ///
@@ -193,12 +256,12 @@ impl<F: Storage> KeptDevice<F> {
         birth: Option<&[u8; 16]>,
     ) -> std::result::Result<KeptDevice<F>, KeptError> {
         let mut device = Device::closed();
-        let bytes = file.read_all()?;
+        let bytes = taken(&mut file)?;
         let birth: &[u8] = birth.map_or(&[], |birth| birth);
         // Safety: the pointers are those of slices of these lengths, and the device is closed.
         answer(unsafe {
             sys::mr_kept_open(
-                &mut device.device,
+                device.handle(),
                 bytes.as_ptr(),
                 bytes.len(),
                 mark.as_ptr(),
@@ -212,18 +275,23 @@ impl<F: Storage> KeptDevice<F> {
         Ok(opened)
     }
 
+    /// The file, whose device is closed; what wasn't committed is gone.
+    pub fn into_storage(self) -> F {
+        self.file
+    }
+
     // Does all acts that are left, in their order, and tells the device how that went.
     fn settle(&mut self) -> std::result::Result<(), KeptError> {
         let done = self.do_acts();
         let well = u32::from(done.is_ok());
-        answer(sys::mr_settle(&mut self.device.device, well))?;
+        answer(sys::mr_settle(self.device.handle(), well))?;
         done
     }
 
     fn do_acts(&mut self) -> std::result::Result<(), KeptError> {
         for place in 0.. {
             let mut act = sys::Act::default();
-            match sys::mr_act_at(&mut self.device.device, place, &mut act) {
+            match sys::mr_act_at(self.device.handle(), place, &mut act) {
                 sys::NOT_THERE => break,
                 code => answer(code)?,
             }
@@ -239,7 +307,7 @@ impl<F: Storage> KeptDevice<F> {
         Ok(())
     }
 
-    fn act_bytes(&mut self, place: usize) -> Result<Vec<u8>> {
+    fn act_bytes(&self, place: usize) -> Result<Vec<u8>> {
         // Safety: `filled` hands over a buffer of its own, and the room that it has.
         self.device.filled(|device, to, room, len| unsafe {
             sys::mr_act_bytes(device, place, to, room, len)
@@ -253,7 +321,7 @@ impl<F: Storage> KeptDevice<F> {
     /// `TooLarge` or `OutOfMemory`: what waits waits still. `Failed` where the file failed before or there was no memory to note what is
     /// to be done to it; or what the file says.
     pub fn commit(&mut self) -> std::result::Result<Vec<HandedOut>, KeptError> {
-        answer(sys::mr_commit(&mut self.device.device))?;
+        answer(sys::mr_commit(self.device.handle()))?;
         self.settle()?;
         Ok(self.handed_out()?)
     }
@@ -263,11 +331,14 @@ impl<F: Storage> KeptDevice<F> {
     /// # Errors
     ///
     /// `Unsettled`, `Failed` or `OutOfMemory`.
-    pub fn handed_out(&mut self) -> Result<Vec<HandedOut>> {
+    pub fn handed_out(&self) -> Result<Vec<HandedOut>> {
         let mut all = Vec::new();
         for place in 0.. {
             let mut told = sys::Told::default();
-            match sys::mr_told_at(&mut self.device.device, place, &mut told) {
+            match self
+                .device
+                .read(|device| sys::mr_told_at(device, place, &mut told))
+            {
                 sys::NOT_THERE => break,
                 code => answer(code)?,
             }
@@ -281,7 +352,7 @@ impl<F: Storage> KeptDevice<F> {
         Ok(all)
     }
 
-    fn frame(&mut self, place: usize) -> Result<Vec<u8>> {
+    fn frame(&self, place: usize) -> Result<Vec<u8>> {
         // Safety: `filled` hands over a buffer of its own, and the room that it has.
         self.device.filled(|device, to, room, len| unsafe {
             sys::mr_told_frame(device, place, to, room, len)
@@ -301,7 +372,7 @@ impl<F: Storage> KeptDevice<F> {
     /// # let folder = std::env::temp_dir().join(format!("mailrep-note-{}", std::process::id()));
     /// # std::fs::create_dir_all(&folder)?;
     /// # let path = folder.join("phone");
-    /// # let file = File::options().read(true).write(true).create(true).truncate(true).open(&path)?;
+    /// # let file = File::options().read(true).write(true).create_new(true).open(&path)?;
     /// # let mark = [0; 32];
     /// # let mut phone = KeptDevice::begin(file, 0, "all", 1_000, &[7; 16], &mark)?;
     /// # phone.create(&Draft { from: "ann@example.org", subject: "lunch", ..Draft::default() })?;
@@ -313,7 +384,7 @@ impl<F: Storage> KeptDevice<F> {
     /// drop(phone);
     ///
     /// let file = File::options().read(true).write(true).open(&path)?;
-    /// let mut phone = KeptDevice::open(file, &mark, None)?;
+    /// let phone = KeptDevice::open(file, &mark, None)?;
     /// let announced = match phone.notes()?.pop() {
     ///     Some(note) => u64::from_le_bytes(note[..].try_into()?),
     ///     None => 0,
@@ -329,7 +400,7 @@ impl<F: Storage> KeptDevice<F> {
     /// `Failed`; `TooLarge` of 2^32 bytes or more; `OutOfMemory`.
     pub fn note(&mut self, bytes: &[u8]) -> Result<()> {
         // Safety: the pointer is that of a slice of this length.
-        answer(unsafe { sys::mr_note(&mut self.device.device, bytes.as_ptr(), bytes.len()) })
+        answer(unsafe { sys::mr_note(self.device.handle(), bytes.as_ptr(), bytes.len()) })
     }
 
     /// The notes that opening the file found, in the order in which they were written: of all commits, and none that was written since. A
@@ -338,13 +409,13 @@ impl<F: Storage> KeptDevice<F> {
     /// # Errors
     ///
     /// `Failed`.
-    pub fn notes(&mut self) -> Result<Vec<Vec<u8>>> {
+    pub fn notes(&self) -> Result<Vec<Vec<u8>>> {
         let mut count = 0;
-        answer(sys::mr_notes(&mut self.device.device, &mut count))?;
+        answer(self.device.read(|device| sys::mr_notes(device, &mut count)))?;
         (0..count).map(|place| self.note_at(place)).collect()
     }
 
-    fn note_at(&mut self, place: usize) -> Result<Vec<u8>> {
+    fn note_at(&self, place: usize) -> Result<Vec<u8>> {
         // Safety: `filled` hands over a buffer of its own, and the room that it has.
         self.device.filled(|device, to, room, len| unsafe {
             sys::mr_note_at(device, place, to, room, len)
@@ -356,17 +427,12 @@ impl<F: Storage> KeptDevice<F> {
     /// # Errors
     ///
     /// `Unsettled` while an event or a note waits for a commit; `Failed`.
-    pub fn birth(&mut self) -> Result<[u8; 16]> {
+    pub fn birth(&self) -> Result<[u8; 16]> {
         let (mut birth, mut len) = ([0; 16], 0);
         // Safety: the buffer has this length.
-        answer(unsafe {
-            sys::mr_birth(
-                &mut self.device.device,
-                birth.as_mut_ptr(),
-                birth.len(),
-                &mut len,
-            )
-        })?;
+        answer(self.device.read(|device| unsafe {
+            sys::mr_birth(device, birth.as_mut_ptr(), birth.len(), &mut len)
+        }))?;
         Ok(birth)
     }
 
@@ -379,17 +445,17 @@ impl<F: Storage> KeptDevice<F> {
     ///
     /// `Unsettled` while an event or a note waits for a commit; `Failed`; `Version`; then `Peer`, where this is an older state of its device, or
     /// where another file was begun under its id.
-    pub fn check_peer(&mut self, highest: &[Version], births: &[Born]) -> Result<()> {
+    pub fn check_peer(&self, highest: &[Version], births: &[Born]) -> Result<()> {
         // Safety: the pointers are those of slices of these lengths.
-        answer(unsafe {
+        answer(self.device.read(|device| unsafe {
             sys::mr_check_peer(
-                &mut self.device.device,
+                device,
                 highest.as_ptr(),
                 highest.len(),
                 births.as_ptr(),
                 births.len(),
             )
-        })
+        }))
     }
 
     /// What the device has, which is all in its file.
@@ -397,11 +463,14 @@ impl<F: Storage> KeptDevice<F> {
     /// # Errors
     ///
     /// `Unsettled` while an event or a note waits for a commit; `Failed`.
-    pub fn shown(&mut self) -> Result<Shown<'_>> {
+    pub fn shown(&self) -> Result<Shown<'_>> {
         let mut counts = Counts::default();
-        answer(sys::mr_counts(&mut self.device.device, &mut counts))?;
+        answer(
+            self.device
+                .read(|device| sys::mr_counts(device, &mut counts)),
+        )?;
         Ok(Shown {
-            device: &mut self.device,
+            device: &self.device,
         })
     }
 
@@ -423,7 +492,8 @@ impl<F: Storage> KeptDevice<F> {
         self.device.edit(bases, draft).map(|_| ())
     }
 
-    /// Merges the heads of an item; the next commit hands out the version. It looks at the heads, so that neither an event nor a note may wait for a commit.
+    /// Merges the heads of an item; the next commit hands out the version. It looks at the heads, so that neither an event nor a note may
+    /// wait for a commit.
     ///
     /// # Errors
     ///
@@ -465,7 +535,7 @@ impl<F: Storage> KeptDevice<F> {
     ///
     /// As [`Device::next`].
     pub fn next(&mut self, stream: u64) -> Result<()> {
-        answer(sys::mr_next(&mut self.device.device, stream))
+        answer(sys::mr_next(self.device.handle(), stream))
     }
 
     /// Takes a record.
@@ -501,7 +571,7 @@ impl<F: Storage> KeptDevice<F> {
     ///
     /// As [`Device::vouch`].
     pub fn vouch(&mut self, version: Version) -> Result<()> {
-        answer(sys::mr_vouch(&mut self.device.device, version))
+        answer(sys::mr_vouch(self.device.handle(), version))
     }
 
     /// Lets go of the push-outs that a receipt frees.
@@ -515,24 +585,24 @@ impl<F: Storage> KeptDevice<F> {
 }
 
 /// What a kept device has. While it is there no event happens.
-#[derive(Debug)]
+#[derive(Clone, Copy, Debug)]
 pub struct Shown<'a> {
-    device: &'a mut Device,
+    device: &'a Device,
 }
 
-impl Shown<'_> {
+impl<'a> Shown<'a> {
     /// As [`Device::counts`].
-    pub fn counts(&mut self) -> Counts {
+    pub fn counts(self) -> Counts {
         self.device.counts()
     }
 
     /// As [`Device::heads`].
-    pub fn heads(&mut self) -> impl Iterator<Item = Held> + '_ {
+    pub fn heads(self) -> impl ExactSizeIterator<Item = Held> + DoubleEndedIterator {
         self.device.heads()
     }
 
     /// As [`Device::push_outs`].
-    pub fn push_outs(&mut self) -> impl Iterator<Item = Held> + '_ {
+    pub fn push_outs(self) -> impl ExactSizeIterator<Item = Held> + DoubleEndedIterator {
         self.device.push_outs()
     }
 
@@ -541,7 +611,7 @@ impl Shown<'_> {
     /// # Errors
     ///
     /// `OutOfMemory` alone.
-    pub fn conflicts(&mut self) -> Result<Vec<Version>> {
+    pub fn conflicts(self) -> Result<Vec<Version>> {
         self.device.conflicts()
     }
 
@@ -550,12 +620,15 @@ impl Shown<'_> {
     /// # Errors
     ///
     /// `Version`.
-    pub fn heads_of(&mut self, item: Version) -> Result<Vec<Version>> {
+    pub fn heads_of(self, item: Version) -> Result<Vec<Version>> {
         self.device.heads_of(item)
     }
 
     /// As [`Device::changes_since`].
-    pub fn changes_since(&mut self, seen: usize) -> impl Iterator<Item = Change> + '_ {
+    pub fn changes_since(
+        self,
+        seen: usize,
+    ) -> impl ExactSizeIterator<Item = Change> + DoubleEndedIterator {
         self.device.changes_since(seen)
     }
 
@@ -564,7 +637,7 @@ impl Shown<'_> {
     /// # Errors
     ///
     /// `Version`, then `NotThere`.
-    pub fn message(&mut self, version: Version) -> Result<Message> {
+    pub fn message(self, version: Version) -> Result<Message> {
         self.device.message(version)
     }
 
@@ -573,7 +646,7 @@ impl Shown<'_> {
     /// # Errors
     ///
     /// `Version`.
-    pub fn knows(&mut self, item: Version, version: Version) -> Result<bool> {
+    pub fn knows(self, item: Version, version: Version) -> Result<bool> {
         self.device.knows(item, version)
     }
 
@@ -582,12 +655,12 @@ impl Shown<'_> {
     /// # Errors
     ///
     /// `Version`; `Refused`, where what is known has too many holes.
-    pub fn highest(&mut self, author: u32) -> Result<Option<u32>> {
+    pub fn highest(self, author: u32) -> Result<Option<u32>> {
         self.device.highest(author)
     }
 
     /// As [`Device::is_retired`].
-    pub fn is_retired(&mut self) -> bool {
+    pub fn is_retired(self) -> bool {
         self.device.is_retired()
     }
 
@@ -596,7 +669,7 @@ impl Shown<'_> {
     /// # Errors
     ///
     /// `OutOfMemory` alone.
-    pub fn sessions(&mut self) -> Result<Vec<u64>> {
+    pub fn sessions(self) -> Result<Vec<u64>> {
         self.device.sessions()
     }
 
@@ -605,7 +678,7 @@ impl Shown<'_> {
     /// # Errors
     ///
     /// `OutOfMemory` alone.
-    pub fn streams(&mut self) -> Result<Vec<u64>> {
+    pub fn streams(self) -> Result<Vec<u64>> {
         self.device.streams()
     }
 }

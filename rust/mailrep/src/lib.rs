@@ -26,8 +26,11 @@
 //! // A device is its log: kept, it is there again.
 //! let log: Vec<u8> = office.log_since(0).collect::<mailrep::Result<Vec<_>>>()?.concat();
 //! drop(office);
-//! let mut office = Device::replay(1, "all", 1_000, &log)?;
-//! assert_eq!(office.heads().next().map(|head| head.version), Some(lunch));
+//! let office = Device::replay(1, "all", 1_000, &log)?;
+//! for head in office.heads() {
+//!     assert_eq!(office.message(head.version)?.each_label().collect::<Vec<_>>(), ["inbox", "work"]);
+//! }
+//! assert_eq!(office.heads().len(), 1);
 //! # Ok(())
 //! # }
 //! ```
@@ -44,23 +47,25 @@
 //! A [`KeptDevice`] has a file of its own, and shows and hands out nothing that isn't in it:
 //!
 //! ```
-//! use mailrep::{Draft, HandedOut, KeptDevice};
+//! use mailrep::{Draft, HandedOut, KeptDevice, mark_of};
 //! use std::fs::File;
 //!
 //! # fn main() -> Result<(), Box<dyn std::error::Error>> {
 //! # let folder = std::env::temp_dir().join(format!("mailrep-{}", std::process::id()));
 //! # std::fs::create_dir_all(&folder)?;
 //! # let path = folder.join("phone");
-//! let file = File::options().read(true).write(true).create(true).truncate(true).open(&path)?;
-//! let (birth, mark) = ([7; 16], [0; 32]); // random bytes, and the file's place
+//! let file = File::options().read(true).write(true).create_new(true).open(&path)?;
+//! let (birth, mark) = ([7; 16], mark_of(&file)?); // random bytes, and the file's place
 //! let mut phone = KeptDevice::begin(file, 0, "all", 1_000, &birth, &mark)?;
+//! File::open(&folder)?.sync_all()?; // so that the file's name outlives a crash
 //! phone.create(&Draft { from: "ann@example.org", subject: "lunch", ..Draft::default() })?;
 //! let [HandedOut::Issued(lunch)] = phone.commit()?[..] else { panic!() };
 //! drop(phone);
 //!
 //! // Killed at any moment, the program finds what was handed out.
 //! let file = File::options().read(true).write(true).open(&path)?;
-//! let mut phone = KeptDevice::open(file, &mark, None)?;
+//! let mark = mark_of(&file)?;
+//! let phone = KeptDevice::open(file, &mark, None)?;
 //! assert_eq!(phone.shown()?.message(lunch)?.subject, "lunch");
 //! # std::fs::remove_dir_all(&folder)?;
 //! # Ok(())
@@ -87,7 +92,7 @@ pub use error::{
     Refusal, ReplayFault, Result, VersionFault, WireFault,
 };
 pub use frames::{claim, frame_len};
-pub use kept::{HandedOut, KeptDevice, KeptError, Shown, Storage};
+pub use kept::{HandedOut, KeptDevice, KeptError, Shown, Storage, mark_of};
 pub use values::{
     Born, Change, Claim, Counts, Draft, FrameKind, Held, Message, Received, Version, flag,
 };

@@ -5,7 +5,6 @@ use std::ffi::c_void;
 
 /// `mr_device`: all zeros is closed.
 #[repr(C)]
-#[derive(Debug)]
 pub struct Device {
     inner: *mut c_void,
     live: u64,

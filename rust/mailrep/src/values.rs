@@ -1,6 +1,8 @@
 //! What a device takes and tells.
 
+use crate::error::VersionFault;
 use std::fmt;
+use std::str::FromStr;
 
 /// The flags of a message, to be joined by `|`.
 pub mod flag {
@@ -32,6 +34,23 @@ pub struct Version {
 impl fmt::Display for Version {
     fn fmt(&self, f: &mut fmt::Formatter<'_>) -> fmt::Result {
         write!(f, "{}.{}", self.author, self.counter)
+    }
+}
+
+/// Of just what `Display` writes of a version: no sign, no zero in front.
+impl FromStr for Version {
+    type Err = VersionFault;
+
+    fn from_str(text: &str) -> Result<Version, VersionFault> {
+        let parts = text.split_once('.').ok_or(VersionFault::BadVersion)?;
+        let (Ok(author), Ok(counter)) = (parts.0.parse(), parts.1.parse()) else {
+            return Err(VersionFault::BadVersion);
+        };
+        let version = Version { author, counter };
+        if author > 63 || !(1..=1_000_000).contains(&counter) || version.to_string() != text {
+            return Err(VersionFault::BadVersion);
+        }
+        Ok(version)
     }
 }
 
@@ -133,12 +152,31 @@ pub struct Message {
     pub subject: String,
     /// The body.
     pub body: Vec<u8>,
-    /// The labels, in rising order.
-    pub labels: Vec<String>,
+    /// The labels, in rising order, with commas between, as a [`Draft`] has them; [`Message::each_label`] gives one by one.
+    pub labels: String,
     /// Those of [`flag`].
     pub flags: u8,
     /// Days since 1970-01-01.
     pub day: u16,
+}
+
+impl Message {
+    /// The labels, one by one, in rising order.
+    pub fn each_label(&self) -> impl Iterator<Item = &str> {
+        self.labels.split(',').filter(|label| !label.is_empty())
+    }
+
+    /// The same message, to be written: for an edit that changes a part of it.
+    pub fn as_draft(&self) -> Draft<'_> {
+        Draft {
+            from: &self.from,
+            subject: &self.subject,
+            body: &self.body,
+            labels: &self.labels,
+            flags: self.flags,
+            day: self.day,
+        }
+    }
 }
 
 /// What came of a record.

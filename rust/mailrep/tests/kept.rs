@@ -2,10 +2,12 @@
 
 use mailrep::{
     Born, Draft, Error, HandedOut, KeptDevice, KeptError, OpenFault, PeerFault, Received, Refusal,
-    Storage, Version, VersionFault,
+    Storage, Version, VersionFault, mark_of,
 };
 use std::cell::RefCell;
+use std::fs::{self, File};
 use std::io;
+use std::path::{Path, PathBuf};
 use std::rc::Rc;
 
 const BIRTH: [u8; 16] = [7; 16];
@@ -58,6 +60,11 @@ fn killed() -> io::Error {
 }
 
 impl Storage for Memory {
+    // Each test has one of it at a time.
+    fn lock(&mut self) -> io::Result<()> {
+        Ok(())
+    }
+
     fn read_all(&mut self) -> io::Result<Vec<u8>> {
         Ok(self.bytes.borrow().clone())
     }
@@ -125,7 +132,7 @@ fn what_was_handed_out_is_kept_in_whichever_act_the_program_is_killed() {
             (file.fails_at, file.torn) = (Some(fails_at), torn);
             let ended = run(file, &mut handed_out).is_ok();
             let mut phone = again(&bytes);
-            let mut shown = phone.shown().unwrap();
+            let shown = phone.shown().unwrap();
             for version in &handed_out {
                 assert_eq!(shown.message(*version).unwrap().subject, "lunch");
             }
@@ -164,7 +171,7 @@ fn a_note_is_kept_with_its_event_in_whichever_act_the_program_is_killed() {
             let mut file = Memory::over(&bytes);
             (file.fails_at, file.torn) = (Some(fails_at), torn);
             let ended = run_with_notes(file).is_ok();
-            let mut phone = again(&bytes);
+            let phone = again(&bytes);
             let heads = phone.shown().unwrap().counts().heads;
             let notes: Vec<_> = [1, 2, 3].map(|number| vec![number; 600]).into();
             assert_eq!(phone.notes().unwrap(), notes[..heads]);
@@ -191,7 +198,7 @@ fn a_note_waits_for_a_commit_and_the_next_opening_finds_it() -> Result<(), KeptE
     phone.note(b"third")?;
     assert_eq!(phone.notes()?, [b"first".to_vec(), Vec::new()]);
     phone.commit()?;
-    let mut phone = KeptDevice::open(Memory::over(&bytes), &MARK, None)?;
+    let phone = KeptDevice::open(Memory::over(&bytes), &MARK, None)?;
     assert_eq!(phone.notes()?.pop(), Some(b"third".to_vec()));
     assert_eq!(phone.notes()?.len(), 3);
     Ok(())
@@ -217,6 +224,102 @@ fn a_file_that_failed_has_to_be_opened_again() {
         phone.commit(),
         Err(KeptError::Device(Error::Failed))
     ));
+}
+
+/// A path below the system's folder for such files, at which nothing is.
+fn fresh(name: &str) -> PathBuf {
+    let path = std::env::temp_dir().join(format!("mailrep-{name}-{}", std::process::id()));
+    let _ = fs::remove_file(&path);
+    path
+}
+
+fn opened(path: &Path) -> File {
+    File::options()
+        .read(true)
+        .write(true)
+        .create(true)
+        .truncate(false)
+        .open(path)
+        .unwrap()
+}
+
+#[test]
+fn a_begin_erases_nothing() {
+    let path = fresh("erases");
+    let mut phone = KeptDevice::begin(opened(&path), 0, "all", 100, &BIRTH, &MARK).unwrap();
+    phone.create(&LUNCH).unwrap();
+    phone.commit().unwrap();
+    let file = phone.into_storage();
+    let bytes = fs::read(&path).unwrap();
+    let not_empty = |begun| {
+        matches!(
+            begun,
+            Err(KeptError::Device(Error::Open(OpenFault::NotEmpty)))
+        )
+    };
+    assert!(not_empty(KeptDevice::begin(
+        file, 0, "all", 100, &[1; 16], &MARK
+    )));
+    assert_eq!(fs::read(&path).unwrap(), bytes);
+    let phone = KeptDevice::open(opened(&path), &MARK, Some(&BIRTH)).unwrap();
+    assert_eq!(phone.shown().unwrap().heads().len(), 1);
+    drop(phone);
+    // Whatever it is.
+    fs::write(&path, b"a letter").unwrap();
+    assert!(not_empty(KeptDevice::begin(
+        opened(&path),
+        0,
+        "all",
+        100,
+        &BIRTH,
+        &MARK
+    )));
+    assert_eq!(fs::read(&path).unwrap(), b"a letter");
+    fs::remove_file(&path).unwrap();
+}
+
+#[test]
+fn of_a_file_one_device_is_open() {
+    let path = fresh("lock");
+    let mark = mark_of(&opened(&path)).unwrap();
+    let phone = KeptDevice::begin(opened(&path), 0, "all", 100, &BIRTH, &mark).unwrap();
+    assert!(matches!(
+        KeptDevice::open(opened(&path), &mark, None),
+        Err(KeptError::InUse)
+    ));
+    assert!(matches!(
+        KeptDevice::begin(opened(&path), 0, "all", 100, &BIRTH, &mark),
+        Err(KeptError::InUse)
+    ));
+    // The file keeps its lock, of which another device of the same file may be made.
+    let file = phone.into_storage();
+    assert!(matches!(
+        KeptDevice::open(opened(&path), &mark, None),
+        Err(KeptError::InUse)
+    ));
+    drop(KeptDevice::open(file, &mark, None).unwrap());
+    drop(KeptDevice::open(opened(&path), &mark, None).unwrap());
+    fs::remove_file(&path).unwrap();
+}
+
+#[test]
+fn a_copy_has_another_mark() {
+    let (path, copy) = (fresh("original"), fresh("copy"));
+    let mark = mark_of(&opened(&path)).unwrap();
+    drop(KeptDevice::begin(opened(&path), 0, "all", 100, &BIRTH, &mark).unwrap());
+    fs::copy(&path, &copy).unwrap();
+    assert_eq!(mark_of(&opened(&path)).unwrap(), mark);
+    let of_copy = mark_of(&opened(&copy)).unwrap();
+    assert_ne!(of_copy, mark);
+    for other in [of_copy, [0; 32]] {
+        assert!(matches!(
+            KeptDevice::open(opened(&copy), &other, None),
+            Err(KeptError::Device(Error::Open(OpenFault::Copied)))
+        ));
+    }
+    for path in [path, copy] {
+        fs::remove_file(path).unwrap();
+    }
 }
 
 #[test]
@@ -293,7 +396,7 @@ fn an_old_copy_and_another_file_of_its_id_are_told_by_a_peer() -> Result<(), Kep
     let told = Version { author: 0, counter };
     assert_eq!((counter, phone.shown()?.highest(5)?), (2, None));
     assert_eq!(phone.check_peer(&[told], &[met]), Ok(()));
-    let mut old = KeptDevice::open(Memory::over(&backup), &MARK, None)?;
+    let old = KeptDevice::open(Memory::over(&backup), &MARK, None)?;
     let old_copy = Err(Error::Peer(PeerFault::OldCopy));
     assert_eq!(old.check_peer(&[told], &[met]), old_copy);
     let other = Born {

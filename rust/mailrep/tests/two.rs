@@ -1,7 +1,7 @@
 //! Two devices, and what they refuse.
 
 use mailrep::{
-    Change, Claim, Device, Draft, Error, EventFault, FilterFault, FrameKind, MergeFault,
+    Change, Claim, Device, Draft, Error, EventFault, FilterFault, FrameKind, MergeFault, Message,
     MessageFault, Received, Refusal, ReplayFault, Result, Version, VersionFault, WireFault, flag,
 };
 
@@ -35,7 +35,8 @@ fn a_message_goes_over_and_back() -> Result<()> {
     let message = office.message(lunch)?;
     assert_eq!(message.subject, "lunch");
     assert_eq!(message.body, b"See you there.");
-    assert_eq!(message.labels, ["inbox", "work"]);
+    assert_eq!(message.labels, "inbox,work");
+    assert_eq!(message.each_label().collect::<Vec<_>>(), ["inbox", "work"]);
     assert_eq!((message.flags, message.day), (flag::SEEN, 20_000));
     let moved = office.edit(
         &[lunch],
@@ -80,7 +81,7 @@ fn two_edits_are_merged() -> Result<()> {
     assert_eq!(phone.heads_of(lunch)?, [merged]);
     assert_eq!(phone.conflicts()?, []);
     let message = phone.message(merged)?;
-    assert_eq!(message.labels, ["archive"]);
+    assert_eq!(message.labels, "archive");
     assert_eq!(message.flags, flag::SEEN | flag::FLAGGED);
     sync(&mut office, &mut phone)?;
     assert_eq!(office.heads_of(lunch)?, [merged]);
@@ -106,7 +107,7 @@ fn a_device_is_its_log() -> Result<()> {
     phone.create(&LUNCH)?;
     phone.pull()?;
     let mut log: Vec<u8> = phone.log_since(0).collect::<Result<Vec<_>>>()?.concat();
-    let mut again = Device::replay(0, "all", 100, &log)?;
+    let again = Device::replay(0, "all", 100, &log)?;
     assert_eq!(
         again.heads().collect::<Vec<_>>(),
         phone.heads().collect::<Vec<_>>()
@@ -199,9 +200,79 @@ fn frames_tell_their_length_and_their_sender() -> Result<()> {
 }
 
 #[test]
+fn readers_go_on_beside_one_another() -> Result<()> {
+    let mut phone = Device::open(0, "all", 100)?;
+    for subject in ["lunch", "coffee", "tea"] {
+        phone.create(&Draft { subject, ..LUNCH })?;
+    }
+    let heads = phone.heads();
+    assert_eq!((heads.len(), phone.changes_since(1).len()), (3, 2));
+    let mut subjects = Vec::new();
+    for head in heads.rev() {
+        subjects.push(phone.message(head.version)?.subject);
+        assert_eq!(phone.heads_of(head.item)?, [head.version]);
+    }
+    assert_eq!(subjects, ["tea", "coffee", "lunch"]);
+    assert_eq!(phone.changes_since(9).len(), 0);
+    Ok(())
+}
+
+#[test]
+fn an_edit_changes_a_part_of_a_message() -> Result<()> {
+    let mut phone = Device::open(0, "all", 100)?;
+    let lunch = phone.create(&LUNCH)?;
+    let message = phone.message(lunch)?;
+    let flags = message.flags | flag::FLAGGED;
+    let marked = phone.edit(
+        &[lunch],
+        &Draft {
+            flags,
+            ..message.as_draft()
+        },
+    )?;
+    assert_eq!(phone.message(marked)?, Message { flags, ..message });
+    let bare = phone.create(&Draft::default())?;
+    assert_eq!(phone.message(bare)?.labels, "");
+    assert_eq!(phone.message(bare)?.each_label().count(), 0);
+    Ok(())
+}
+
+#[test]
+fn a_version_is_its_text() {
+    for (author, counter) in [(0, 1), (63, 1_000_000), (7, 10)] {
+        let version = Version { author, counter };
+        assert_eq!(version.to_string().parse(), Ok(version));
+    }
+    for text in [
+        "",
+        ".",
+        "1",
+        "1.",
+        ".1",
+        "64.1",
+        "0.0",
+        "0.1000001",
+        "00.1",
+        "0.01",
+        "+1.1",
+        "1.+1",
+        "1.1 ",
+        "1.1.1",
+        "-1.1",
+        "4294967296.1",
+    ] {
+        assert_eq!(
+            text.parse::<Version>(),
+            Err(VersionFault::BadVersion),
+            "{text}"
+        );
+    }
+}
+
+#[test]
 fn a_device_goes_to_another_thread() -> Result<()> {
     let mut phone = Device::open(0, "all", 100)?;
-    let mut phone = std::thread::spawn(move || phone.create(&LUNCH).map(|_| phone))
+    let phone = std::thread::spawn(move || phone.create(&LUNCH).map(|_| phone))
         .join()
         .unwrap()?;
     assert_eq!(phone.counts().heads, 1);
