@@ -1,7 +1,6 @@
 -- what is done for a mail, case by case
 use Rattle.std.proofs.Common.{◌≡◌, inl, inr, Bool, true, false, cond, not, ◌&&◌, ◌||◌, List, [], ◌∷◌, Option, Some, None, refl, sym, ◌∙◌, ap, subst}
 use Rattle.std.specs.Prelude.{nat_lt, length}
-use Rattle.std.specs.Option.{is_some}
 use Rattle.std.proofs.lemmas.Bool.{false≢true, and_parts}
 use Rattle.mr_version.specs.Name.{Name}
 use Rattle.mr_mail.specs.Label.{has_label}
@@ -116,12 +115,12 @@ by_view_join items first left seen (Some view) =
     (unchanged_case (λ a. IfJoin a (IsJoin items seen)) (together_of items first) (Some view) seen (λ d f fs. record { value_is = refl; due = d; file = f }) tt (λ fs. tt))
     (λ c. tt) (λ a b c. changed_case (λ a. IfJoin a (IsJoin items seen)) (together_of items first) view (wanted (shown items) left view) (λ r. tt) tt)
 
-unheld_case : (Q : MailAct → Type 0) (left : Option ViewParts) (seen : Seen) (view : Option ViewParts) → Q act.Nothing → Q (act.Files files.Remove) → ((v : ViewParts) → view ≡ Some v → seen.is_own ≡ false → is_some (standing left) ≡ false → Q (act.Create v)) → Q (act_on_unheld_seen left seen view)
+unheld_case : (Q : MailAct → Type 0) (left : Option ViewParts) (seen : Seen) (view : Option ViewParts) → Q act.Nothing → Q (act.Files files.Remove) → ((v : ViewParts) → view ≡ Some v → seen.is_own ≡ false → is_left left v ≡ false → Q (act.Create v)) → Q (act_on_unheld_seen left seen view)
 unheld_case Q left seen None nothing remove create = nothing
 unheld_case Q left seen (Some v) nothing remove create =
-    branch Q (seen.is_own || is_some (standing left)) (act.Files files.Remove) (act.Create v)
+    branch Q (seen.is_own || is_left left v) (act.Files files.Remove) (act.Create v)
     (λ _. remove)
-    (λ h. let no = or_none seen.is_own (is_some (standing left)) h in create v refl no.0 no.1)
+    (λ h. let no = or_none seen.is_own (is_left left v) h in create v refl no.0 no.1)
 
 pub joins : (items : List HeldItem) (left : Option ViewParts) (seen : Seen) → IfJoin (act_of items left seen) (IsJoin items seen)
 joins [] left seen = unheld_case (λ a. IfJoin a (IsJoin [] seen)) left seen (standing seen.view) tt tt (λ v e o l. tt)
@@ -152,10 +151,6 @@ waits (first ∷ items) left seen = waits_by (first ∷ items) first.item left s
 
 -- ---- what is new is seen, isn't held, wasn't left, and isn't the program's own
 
-some_none : (v : Option ViewParts) → is_some v ≡ false → v ≡ None
-some_none None h = refl
-some_none (Some v) h = absurd (false≢true (sym h))
-
 creates_by : (items : List HeldItem) (first : Name) (left : Option ViewParts) (seen : Seen) (view : Option ViewParts) (P : ViewParts → Type 0) → IfCreate (act_by (together_of items first) left seen view) P
 creates_by items first left seen None P =
     unseen_case (λ a. IfCreate a P) (together_of items first) left seen
@@ -166,11 +161,11 @@ creates_by items first left seen (Some view) P =
     (unchanged_case (λ a. IfCreate a P) (together_of items first) (Some view) seen (λ d f fs. tt) tt (λ fs. tt))
     (λ c. tt) (λ a b c. changed_case (λ a. IfCreate a P) (together_of items first) view (wanted (shown items) left view) (λ r. tt) tt)
 
-pub creates : (items : List HeldItem) (left : Option ViewParts) (seen : Seen) → IfCreate (act_of items left seen) (λ view. (items ≡ []) × (standing seen.view ≡ Some view) × (standing left ≡ None) × (seen.is_own ≡ false))
+pub creates : (items : List HeldItem) (left : Option ViewParts) (seen : Seen) → IfCreate (act_of items left seen) (λ view. (items ≡ []) × (standing seen.view ≡ Some view) × (is_left left view ≡ false) × (seen.is_own ≡ false))
 creates [] left seen =
-    unheld_case (λ a. IfCreate a (λ view. ◌≡◌ {A = List HeldItem} [] [] × (standing seen.view ≡ Some view) × (standing left ≡ None) × (seen.is_own ≡ false))) left seen (standing seen.view) tt tt
-    (λ v e o l. (refl, e, some_none (standing left) l, o))
-creates (first ∷ items) left seen = creates_by (first ∷ items) first.item left seen (standing seen.view) (λ view. (first ∷ items ≡ []) × (standing seen.view ≡ Some view) × (standing left ≡ None) × (seen.is_own ≡ false))
+    unheld_case (λ a. IfCreate a (λ view. ◌≡◌ {A = List HeldItem} [] [] × (standing seen.view ≡ Some view) × (is_left left view ≡ false) × (seen.is_own ≡ false))) left seen (standing seen.view) tt tt
+    (λ v e o l. (refl, e, l, o))
+creates (first ∷ items) left seen = creates_by (first ∷ items) first.item left seen (standing seen.view) (λ view. (first ∷ items ≡ []) × (standing seen.view ≡ Some view) × (is_left left view ≡ false) × (seen.is_own ≡ false))
 
 -- ---- no change is lost
 

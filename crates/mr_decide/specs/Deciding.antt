@@ -1,5 +1,5 @@
 -- what is done for one mail
-use Rattle.std.specs.Prelude.{Bool, true, false, not, ◌&&◌, ◌||◌, if◌then◌else◌, is_some, nat_lt, length, List, [], ◌∷◌, Option, Some, None}
+use Rattle.std.specs.Prelude.{Bool, true, false, not, ◌&&◌, ◌||◌, if◌then◌else◌, nat_lt, length, List, [], ◌∷◌, Option, Some, None}
 use Rattle.mr_version.specs.Name.{Name}
 use Rattle.mr_mail.specs.declared.label.TheConstants.{MAX_LABELS}
 use Rattle.mr_joins.specs.View.{ViewParts, view_eq, is_nowhere}
@@ -74,10 +74,10 @@ together_of items first = record { value = held.together items; shown = held.sho
 abbrev pub act_on_held : List HeldItem → Name → Option ViewParts → Seen → MailAct
 act_on_held items first left seen = act_by (together_of items first) left seen (standing seen.view)
 
--- a mail that isn't held: what is seen is new, unless it was left there, or is the program's own
+-- a mail that isn't held: what is seen is new, unless it was left just so, or is the program's own
 abbrev pub act_on_unheld_seen : Option ViewParts → Seen → Option ViewParts → MailAct
 act_on_unheld_seen left seen None = act.Nothing
-act_on_unheld_seen left seen (Some view) = if seen.is_own || is_some (standing left) then act.Files files.Remove else act.Create view
+act_on_unheld_seen left seen (Some view) = if seen.is_own || is_left left view then act.Files files.Remove else act.Create view
 
 abbrev pub act_on_unheld : Option ViewParts → Seen → MailAct
 act_on_unheld left seen = act_on_unheld_seen left seen (standing seen.view)

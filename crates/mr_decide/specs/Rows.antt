@@ -110,3 +110,10 @@ new = refl
 
 pub left_the_filter : act_on_unheld (Some in_inbox) (seen (Some in_inbox) true true) ≡ act.Files files.Remove
 left_the_filter = refl
+
+-- what the user did with it since is told, and its file stays
+pub flagged_as_it_left : act_on_unheld (Some in_inbox) (seen (Some (view (codes "inbox" ∷ []) 4)) true true) ≡ act.Create (view (codes "inbox" ∷ []) 4)
+flagged_as_it_left = refl
+
+pub put_back_elsewhere : act_on_unheld (Some in_inbox) (seen (Some (view (codes "play" ∷ []) 0)) true true) ≡ act.Create (view (codes "play" ∷ []) 0)
+put_back_elsewhere = refl

@@ -40,7 +40,7 @@ pub fn act_of(
     ensures waits { IfOk result (λ act. IfWait act (λ news. (seen.now.is_certain ≡ false) × (news ≡ has_news held.now (option_copied left.entry)))) }
     // What is new is seen and isn't held, was not left so, and isn't the program's own.
     ensures creates { IfOk result (λ act. IfCreate act (λ view. (held.now ≡ []) × (specs.standing seen.now.view ≡ Some view)
-        × (specs.standing (option_copied left.entry) ≡ None) × (seen.now.is_own ≡ false))) }
+        × (specs.is_left (option_copied left.entry) view ≡ false) × (seen.now.is_own ≡ false))) }
 {
     let act = decided(alloc, held, left, seen)?;
     Ok(act)
@@ -62,14 +62,14 @@ fn decided(
     }
 }
 
-/// What is done for a mail that isn't held.
+/// What is done for a mail that isn't held: its files go only where it stands as it was left, or as the program itself put it there.
 fn act_on_unheld(alloc: Global, left: Option<&View>, seen: &Seen) -> Result<MailAct, AllocError>
     ensures { IfOk result (λ act. act ≡ specs.act_on_unheld (option_copied left.entry) seen.now) }
 {
     let Some(view) = standing(seen.view.as_ref()) else {
         return Ok(MailAct::Nothing);
     };
-    if seen.is_own || standing(left).is_some() {
+    if seen.is_own || is_left(left, view) {
         return Ok(MailAct::Files(Files::Remove));
     }
     Ok(MailAct::Create(view.copy(alloc)?))
