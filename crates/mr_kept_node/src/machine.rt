@@ -50,7 +50,7 @@ impl<K: Knowledge, D: Device + Drop> Machine<Event, Answer> for KeptMachine<K, D
 
     ghost feed_of = { told_of };
 
-    ghost feed_grows = { feed_grows K.form D.Device };
+    ghost feed_grows = { feed_grows K.form _ };
 
     fn take(&mut self, letter: Event) -> Answer {
         if self.fault.is_some() {
