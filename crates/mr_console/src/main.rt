@@ -18,23 +18,15 @@ use streams::hold_places;
 const UNREAD: u8 = 1;
 
 fn main(rt: HostRuntime) -> ExitCode {
-    match hold_places(&rt) {
-        Ok(places) => {
-            let code = run(&rt);
-            drop(places);
-            code
-        }
-        Err(said) => {
-            let _ = eprintln!(rt; "mailrep: {said}");
-            exit_with(UNREAD)
-        }
+    let places = hold_places(&rt);
+    if let Err(said) = &places {
+        let _ = eprintln!(rt; "mailrep: {said}");
+        return exit_with(UNREAD);
     }
-}
-
-/// Does what the command line asks for, with no file in the place of a standard stream.
-fn run(rt: &HostRuntime) -> ExitCode {
-    let (input, mut output, mut errors) = (rt.reader(), io::writer(rt), rt.stderr());
-    exit_with(run_mailrep(rt, rt, &Disk(rt), input, &mut output, &mut errors))
+    let (input, mut output, mut errors) = (rt.reader(), io::writer(&rt), rt.stderr());
+    let status = run_mailrep(&rt, &rt, &Disk(&rt), input, &mut output, &mut errors);
+    drop(places);
+    exit_with(status)
 }
 
 /// The process ends with this status.
