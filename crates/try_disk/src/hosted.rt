@@ -85,16 +85,22 @@ fn tell_failed<R: Print + AllocGlobal>(rt: &R, bytes: &[u8]) -> Result<()> {
 fn write(alloc: Global, tablet: &mut Tablet) -> Result<()> {
     for subject in SUBJECTS {
         let event = Event::Create(message(alloc, subject, "inbox")?);
-        done(tablet.ask(event))?;
+        done(asked(tablet.ask(event)))?;
     }
     done(tablet.note(Note::new(1, b"both".to_vec(alloc)?)))?;
     done(tablet.commit())
 }
 
+/// What the tablet was asked, without its reply.
+fn asked(answer: Result<Option<Reply>, KeptFault>) -> Result<(), KeptFault> {
+    let _reply = answer?;
+    Ok(())
+}
+
 /// What the tablet was asked, once it is done. A refusal is named in a function that owns nothing else.
-fn done<T: Drop>(answer: Result<T, KeptFault>) -> Result<()> {
+fn done(answer: Result<(), KeptFault>) -> Result<()> {
     match answer {
-        Ok(_) => Ok(()),
+        Ok(()) => Ok(()),
         Err(KeptFault::Refused(refusal)) => Err(refusal.into()),
         Err(fault) => Err(fault.into()),
     }
